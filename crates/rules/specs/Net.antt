@@ -1,0 +1,27 @@
+-- What a plan lists: flows on paths, and link delays.
+use mathlib.Core.List.{List}
+use Prim.Native.Nat.{ℕ}
+
+-- a node of a path, and the cost there
+pub record Hop : Type 0 where
+  pub node : ℕ
+  pub cost : ℕ
+
+pub record Flow : Type 0 where
+  pub number : ℕ
+  pub priority : ℕ
+  pub period : ℕ
+  pub jitter : ℕ
+  pub deadline : ℕ
+  pub path : List Hop
+
+pub record Net : Type 0 where
+  pub lmin : ℕ
+  pub lmax : ℕ
+  pub flows : List Flow
+
+-- a flow's bound, jitter and busy length
+pub record Figures : Type 0 where
+  pub bound : ℕ
+  pub spread : ℕ
+  pub busy : ℕ
