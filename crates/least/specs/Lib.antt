@@ -1,1 +1,7 @@
 pub mod Count
+pub mod Whole
+pub mod Fold
+pub mod Fixed
+pub mod Vector
+pub mod Instants
+pub mod Starts

@@ -1,0 +1,105 @@
+-- Laws of count and ceil. Assumes nothing.
+use mathlib.Core.Path.{_≡_, refl}
+use mathlib.Core.Bool.{Bool, true, false}
+use mathlib.Core.Logic.{_⊎_, inl, inr}
+use Prim.Native.Nat.{ℕ, suc, _+_, _-_, _*_, _/_, _≤_, _<_}
+use native.Mathlib.Nat.{le-refl, le-trans, le-div-iff-mul-le, div-lt-iff-lt-mul, mul-le-mul-left}
+use native.Mathlib.Omega.{arith}
+use lib.Dec.{leb}
+use borrow.Author.Tests.{leb-true, leb-false, le-leb, lt-leb}
+use Rattle.least.specs.Count.{pick, count, ceil}
+
+pub le-or-lt : (a b : ℕ) → (a ≤ b) ⊎ (b < a)
+le-or-lt a b = go (leb a b) refl
+  where
+    go : (t : Bool) → leb a b ≡ t → (a ≤ b) ⊎ (b < a)
+    go true e = inl (leb-true a b e)
+    go false e = inr (leb-false a b e)
+
+pub pick-le : (b : Bool) {a a′ c c′ : ℕ} → a ≤ a′ → c ≤ c′ → pick b a c ≤ pick b a′ c′
+pick-le true p q = p
+pick-le false p q = q
+
+-- the two cases
+pub count-in : (a b t : ℕ) → b ≤ a → count a b t ≡ 1 + (a - b) / t
+unfolding count
+count-in a b t h = rw (le-leb b a h)
+
+pub count-out : (a b t : ℕ) → a < b → count a b t ≡ 0
+unfolding count
+count-out a b t h = rw (lt-leb b a h)
+
+-- What count is: n lies below it exactly if b + n × T ≤ a. Every law below rests on the two contrapositives.
+count-gt : (a b t n : ℕ) → 0 < t → n < count a b t → b + n * t ≤ a
+count-gt a b t n p h = elim (le-or-lt b a) [
+  | inl q ↦ omega (arith, le-div-iff-mul-le {k = t} {x = n} {y = a - b} p .0 (omega (arith, count-in a b t q)))
+  | inr q ↦ absurd (omega (arith, count-out a b t q))
+]
+
+gt-count : (a b t n : ℕ) → 0 < t → b + n * t ≤ a → n < count a b t
+gt-count a b t n p h =
+    let q : b ≤ a = omega arith in
+    omega (arith, count-in a b t q, le-div-iff-mul-le {k = t} {x = n} {y = a - b} p .1 (omega arith))
+
+pub count-le : (a b t n : ℕ) → 0 < t → a < b + n * t → count a b t ≤ n
+count-le a b t n p h = elim (le-or-lt (count a b t) n) [
+  | inl q ↦ q
+  | inr q ↦ omega (arith, count-gt a b t n p q)
+]
+
+pub le-count : (a b t n : ℕ) → 0 < t → count a b t ≤ n → a < b + n * t
+le-count a b t n p h = elim (le-or-lt (b + n * t) a) [
+  | inl q ↦ omega (arith, gt-count a b t n p q)
+  | inr q ↦ q
+]
+
+-- the same of ceil: n lies below it exactly if n × T < b
+pub ceil-le : (b t n : ℕ) → 0 < t → b ≤ n * t → ceil b t ≤ n
+unfolding ceil
+ceil-le b t n p h = omega (arith, div-lt-iff-lt-mul {k = t} {x = b + (t - 1)} {y = n + 1} p .1 (omega arith))
+
+pub le-ceil : (b t n : ℕ) → 0 < t → ceil b t ≤ n → b ≤ n * t
+unfolding ceil
+le-ceil b t n p h = omega (arith, div-lt-iff-lt-mul {k = t} {x = b + (t - 1)} {y = n + 1} p .0 (omega arith))
+
+pub ceil-mono : {a b : ℕ} (t : ℕ) → 0 < t → a ≤ b → ceil a t ≤ ceil b t
+ceil-mono {a} {b} t p h = ceil-le a t (ceil b t) p (le-trans h (le-ceil b t (ceil b t) p (le-refl _)))
+
+pub ceil-pos : (b t : ℕ) → 0 < t → 0 < b → 0 < ceil b t
+ceil-pos b t p q = elim (le-or-lt (ceil b t) 0) [ inl r ↦ omega (arith, le-ceil b t 0 p r) | inr r ↦ r ]
+
+-- rises with a; falls with b and with the period
+pub count-mono : {a a′ : ℕ} (b t : ℕ) → 0 < t → a ≤ a′ → count a b t ≤ count a′ b t
+count-mono {a} {a′} b t p h = count-le a b t (count a′ b t) p (omega (arith, le-count a′ b t (count a′ b t) p (le-refl _)))
+
+pub count-anti : (a : ℕ) {b b′ : ℕ} (t : ℕ) → 0 < t → b ≤ b′ → count a b′ t ≤ count a b t
+count-anti a {b} {b′} t p h = count-le a b′ t (count a b t) p (omega (arith, le-count a b t (count a b t) p (le-refl _)))
+
+pub count-anti-period : (a b : ℕ) {t t′ : ℕ} → 0 < t → t ≤ t′ → count a b t′ ≤ count a b t
+count-anti-period a b {t} {t′} p h =
+    count-le a b t′ (count a b t) (omega arith)
+    (omega (arith, le-count a b t (count a b t) p (le-refl _), mul-le-mul-left (count a b t) h))
+
+-- subadditive
+pub count-add : (a b c t : ℕ) → 0 < t → count (a + c) b t ≤ count a b t + ceil c t
+count-add a b c t p =
+    count-le (a + c) b t (count a b t + ceil c t) p
+    (omega (arith, le-count a b t (count a b t) p (le-refl _), le-ceil c t (ceil c t) p (le-refl _)))
+
+pub count-grows : (a a′ b c t : ℕ) → 0 < t → a′ ≤ a + c → count a′ b t ≤ count a b t + ceil c t
+count-grows a a′ b c t p h = le-trans (count-mono b t p h) (count-add a b c t p)
+
+-- at least one packet in a span that is not negative, at most one a tick and one
+pub count-some : (a b t : ℕ) → 0 < t → b ≤ a → 0 < count a b t
+count-some a b t p h = omega (arith, count-in a b t h)
+
+pub count-few : (a b t : ℕ) → 0 < t → count a b t ≤ a + 1
+count-few a b t p = count-le a b t (a + 1) p (omega (arith, mul-le-mul-left (a + 1) p))
+
+-- both ends moved alike
+pub count-shift : (a b c t : ℕ) → 0 < t → count (a + c) (b + c) t ≡ count a b t
+count-shift a b c t p = omega (
+  arith,
+  count-le (a + c) (b + c) t (count a b t) p (omega (arith, le-count a b t (count a b t) p (le-refl _))),
+  count-le a b t (count (a + c) (b + c) t) p (omega (arith, le-count (a + c) (b + c) t (count (a + c) (b + c) t) p (le-refl _))),
+)

@@ -1,0 +1,159 @@
+-- Laws of sums, greatest and least values over a list. Hypotheses speak of the list's members alone. Assumes nothing.
+use mathlib.Core.Path.{_≡_, refl, _∙_, sym, ap}
+use mathlib.Core.Bool.{Bool, true, false}
+use mathlib.Core.Logic.{_⊎_, inl, inr}
+use mathlib.Core.List.{List, [], _∷_, _++_, map, List·Memᴰ, List·Memᴰ·head, List·Memᴰ·tail, Sublistᴰ, Sublistᴰ·slnil, Sublistᴰ·cons, Sublistᴰ·cons-cons}
+use Prim.Native.Nat.{ℕ, _+_, _*_, _≤_, _<_, max, min}
+use native.Mathlib.Omega.{arith}
+use Rattle.least.specs.Count.{pick}
+use Rattle.least.specs.Fold.{sumOf, maxOf, minOf, only, anyOf, keep}
+
+pub false-true : {A : Type 0} → false ≡ true → A
+false-true e = absurd (let z : _≡_ {A = ℕ} 0 1 = cc in omega arith)
+
+module _ {A : Type 0} where
+  -- membership
+  pub mem-sublist : {a : A} {l m : List A} → Sublistᴰ l m → List·Memᴰ a l → List·Memᴰ a m
+  mem-sublist (Sublistᴰ·cons s) p = List·Memᴰ·tail (mem-sublist s p)
+  mem-sublist (Sublistᴰ·cons-cons e s) (List·Memᴰ·head q) = List·Memᴰ·head (q ∙ e)
+  mem-sublist (Sublistᴰ·cons-cons e s) (List·Memᴰ·tail p) = List·Memᴰ·tail (mem-sublist s p)
+
+  -- sums: pointwise order, strictly if so at one place, and no rise at all if the sums are equal
+  pub sum-le : (f g : A → ℕ) (l : List A) → ((x : A) → List·Memᴰ x l → f x ≤ g x) → sumOf f l ≤ sumOf g l
+  unfolding sumOf
+  sum-le f g [] h = omega arith
+  sum-le f g (x ∷ xs) h = omega (arith, h x (List·Memᴰ·head refl), sum-le f g xs (λ y m. h y (List·Memᴰ·tail m)))
+
+  pub sum-lt : (f g : A → ℕ) {y : A} {l : List A} → ((x : A) → List·Memᴰ x l → f x ≤ g x) → List·Memᴰ y l → f y < g y → sumOf f l < sumOf g l
+  unfolding sumOf
+  sum-lt f g h (List·Memᴰ·head {x = x} {xs = xs} e) q = omega (arith, ap f e, ap g e, sum-le f g xs (λ z m. h z (List·Memᴰ·tail m)))
+  sum-lt f g h (List·Memᴰ·tail {x = x} {xs = xs} m) q = omega (arith, h x (List·Memᴰ·head refl), sum-lt f g (λ z n. h z (List·Memᴰ·tail n)) m q)
+
+  pub sum-tight : (f g : A → ℕ) (l : List A) → ((x : A) → f x ≤ g x) → sumOf g l ≤ sumOf f l → (x : A) → List·Memᴰ x l → g x ≤ f x
+  unfolding sumOf
+  sum-tight f g (y ∷ l) h t x (List·Memᴰ·head e) = omega (arith, h y, ap f e, ap g e, sum-le f g l (λ z m. h z))
+  sum-tight f g (y ∷ l) h t x (List·Memᴰ·tail m) = sum-tight f g l h (omega (arith, h y)) x m
+
+  pub sum-ext : (f g : A → ℕ) (l : List A) → ((x : A) → List·Memᴰ x l → f x ≡ g x) → sumOf f l ≡ sumOf g l
+  unfolding sumOf
+  sum-ext f g [] h = refl
+  sum-ext f g (x ∷ xs) h = omega (arith, h x (List·Memᴰ·head refl), sum-ext f g xs (λ y m. h y (List·Memᴰ·tail m)))
+
+  pub sum-add : (f g : A → ℕ) (l : List A) → sumOf (λ x. f x + g x) l ≡ sumOf f l + sumOf g l
+  unfolding sumOf
+  sum-add f g [] = refl
+  sum-add f g (x ∷ xs) = omega (arith, sum-add f g xs)
+
+  pub sum-append : (f : A → ℕ) (l m : List A) → sumOf f (l ++ m) ≡ sumOf f l + sumOf f m
+  unfolding sumOf
+  sum-append f [] m = omega arith
+  sum-append f (x ∷ xs) m = omega (arith, sum-append f xs m)
+
+  pub sum-sublist : (f : A → ℕ) {l m : List A} → Sublistᴰ l m → sumOf f l ≤ sumOf f m
+  unfolding sumOf
+  sum-sublist f Sublistᴰ·slnil = omega arith
+  sum-sublist f (Sublistᴰ·cons s) = omega (arith, sum-sublist f s)
+  sum-sublist f (Sublistᴰ·cons-cons e s) = omega (arith, ap f e, sum-sublist f s)
+
+  pub sum-at : (f : A → ℕ) {x : A} {l : List A} → List·Memᴰ x l → f x ≤ sumOf f l
+  unfolding sumOf
+  sum-at f (List·Memᴰ·head e) = omega (arith, ap f e)
+  sum-at f (List·Memᴰ·tail m) = omega (arith, sum-at f m)
+
+  -- the greatest
+  pub max-le : (f g : A → ℕ) (l : List A) → ((x : A) → List·Memᴰ x l → f x ≤ g x) → maxOf f l ≤ maxOf g l
+  unfolding maxOf
+  max-le f g [] h = omega arith
+  max-le f g (x ∷ xs) h = omega (arith, h x (List·Memᴰ·head refl), max-le f g xs (λ y m. h y (List·Memᴰ·tail m)))
+
+  pub max-ext : (f g : A → ℕ) (l : List A) → ((x : A) → List·Memᴰ x l → f x ≡ g x) → maxOf f l ≡ maxOf g l
+  unfolding maxOf
+  max-ext f g [] h = refl
+  max-ext f g (x ∷ xs) h = omega (arith, h x (List·Memᴰ·head refl), max-ext f g xs (λ y m. h y (List·Memᴰ·tail m)))
+
+  pub max-at : (f : A → ℕ) {x : A} {l : List A} → List·Memᴰ x l → f x ≤ maxOf f l
+  unfolding maxOf
+  max-at f (List·Memᴰ·head e) = omega (arith, ap f e)
+  max-at f (List·Memᴰ·tail m) = omega (arith, max-at f m)
+
+  pub max-under : (f : A → ℕ) (l : List A) (k : ℕ) → ((x : A) → List·Memᴰ x l → f x ≤ k) → maxOf f l ≤ k
+  unfolding maxOf
+  max-under f [] k h = omega arith
+  max-under f (x ∷ xs) k h = omega (arith, h x (List·Memᴰ·head refl), max-under f xs k (λ y m. h y (List·Memᴰ·tail m)))
+
+  pub max-append : (f : A → ℕ) (l m : List A) → maxOf f (l ++ m) ≡ max (maxOf f l) (maxOf f m)
+  unfolding maxOf
+  max-append f [] m = omega arith
+  max-append f (x ∷ xs) m = omega (arith, max-append f xs m)
+
+  pub max-sublist : (f : A → ℕ) {l m : List A} → Sublistᴰ l m → maxOf f l ≤ maxOf f m
+  unfolding maxOf
+  max-sublist f Sublistᴰ·slnil = omega arith
+  max-sublist f (Sublistᴰ·cons s) = omega (arith, max-sublist f s)
+  max-sublist f (Sublistᴰ·cons-cons e s) = omega (arith, ap f e, max-sublist f s)
+
+  -- the least
+  pub min-le : {d d′ : ℕ} (f g : A → ℕ) (l : List A) → d ≤ d′ → ((x : A) → List·Memᴰ x l → f x ≤ g x) → minOf d f l ≤ minOf d′ g l
+  unfolding minOf
+  min-le f g [] q h = q
+  min-le f g (x ∷ xs) q h = omega (arith, h x (List·Memᴰ·head refl), min-le f g xs q (λ y m. h y (List·Memᴰ·tail m)))
+
+  pub min-at : (d : ℕ) (f : A → ℕ) {x : A} {l : List A} → List·Memᴰ x l → minOf d f l ≤ f x
+  unfolding minOf
+  min-at d f (List·Memᴰ·head e) = omega (arith, ap f e)
+  min-at d f (List·Memᴰ·tail m) = omega (arith, min-at d f m)
+
+  pub min-default : (d : ℕ) (f : A → ℕ) (l : List A) → minOf d f l ≤ d
+  unfolding minOf
+  min-default d f [] = omega arith
+  min-default d f (x ∷ xs) = omega (arith, min-default d f xs)
+
+  pub min-sublist : (d : ℕ) (f : A → ℕ) {l m : List A} → Sublistᴰ l m → minOf d f m ≤ minOf d f l
+  unfolding minOf
+  min-sublist d f Sublistᴰ·slnil = omega arith
+  min-sublist d f (Sublistᴰ·cons s) = omega (arith, min-sublist d f s)
+  min-sublist d f (Sublistᴰ·cons-cons e s) = omega (arith, ap f e, min-sublist d f s)
+
+  -- with a test: a wider test and a greater value
+  pub only-le : (p q : A → Bool) (f g : A → ℕ) (x : A) → (p x ≡ true → q x ≡ true) → f x ≤ g x → only p f x ≤ only q g x
+  only-le p q f g x i h = go (p x) refl
+    where
+      go : (b : Bool) → p x ≡ b → pick b (f x) 0 ≤ only q g x
+      go true e = rw (i e) h
+      go false e = omega arith
+
+  -- some member passes, or each fails
+  pub any-at : (p : A → Bool) {x : A} {l : List A} → List·Memᴰ x l → p x ≡ true → anyOf p l ≡ true
+  unfolding anyOf
+  any-at p (List·Memᴰ·head e) q = rw (sym (ap p e) ∙ q)
+  any-at p (List·Memᴰ·tail {x = y} {xs = l} m) q = go (any-at p m q) (p y)
+    where
+      go : anyOf p l ≡ true → (b : Bool) → pick b true (anyOf p l) ≡ true
+      go ih true = refl
+      go ih false = ih
+
+  pub any-found : (p : A → Bool) (l : List A) → anyOf p l ≡ true → (x : A) × List·Memᴰ x l × (p x ≡ true)
+  unfolding anyOf
+  any-found p [] e = false-true e
+  any-found p (y ∷ l) e = go (any-found p l) (p y) refl e
+    where
+      go : (anyOf p l ≡ true → (x : A) × List·Memᴰ x l × (p x ≡ true)) → (b : Bool) → p y ≡ b → pick b true (anyOf p l) ≡ true →
+          (x : A) × List·Memᴰ x (y ∷ l) × (p x ≡ true)
+      go ih true q e = (y, List·Memᴰ·head refl, q)
+      go ih false q e = (let r = ih e in (r .0, List·Memᴰ·tail (r .1), r .2))
+
+-- over a mapped list
+pub sum-map : {A B : Type 0} (f : B → ℕ) (g : A → B) (l : List A) → sumOf f (map g l) ≡ sumOf (λ x. f (g x)) l
+unfolding sumOf
+sum-map f g [] = refl
+sum-map f g (x ∷ xs) = omega (arith, sum-map f g xs)
+
+pub max-map : {A B : Type 0} (f : B → ℕ) (g : A → B) (l : List A) → maxOf f (map g l) ≡ maxOf (λ x. f (g x)) l
+unfolding maxOf
+max-map f g [] = refl
+max-map f g (x ∷ xs) = omega (arith, max-map f g xs)
+
+pub sublist-map : {A B : Type 0} (g : A → B) {l m : List A} → Sublistᴰ l m → Sublistᴰ (map g l) (map g m)
+sublist-map g Sublistᴰ·slnil = Sublistᴰ·slnil
+sublist-map g (Sublistᴰ·cons s) = Sublistᴰ·cons (sublist-map g s)
+sublist-map g (Sublistᴰ·cons-cons e s) = Sublistᴰ·cons-cons (ap g e) (sublist-map g s)

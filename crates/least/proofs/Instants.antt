@@ -1,0 +1,66 @@
+-- Finitely many instants decide a maximum over all. Assumes nothing.
+use mathlib.Core.Path.{_≡_, refl, ap, subst}
+use mathlib.Core.Logic.{_⊎_, inl, inr}
+use Prim.Native.Nat.{ℕ, zero, suc, _+_, _-_, _≤_, _<_, max}
+use native.Mathlib.Omega.{arith}
+use native.Mathlib.Nat.{le-refl}
+use Rattle.least.specs.Instants.{Greatest, bestTo}
+use Rattle.least.proofs.Count.{le-or-lt}
+
+pub greatest-unique : {φ : ℕ → ℕ} {r s : ℕ} → Greatest φ r → Greatest φ s → r ≡ s
+greatest-unique {φ} {r} {s} p q = omega (arith, p .reached, q .reached, p .above (q .instant), q .above (p .instant))
+
+pub greatest-ext : {φ ψ : ℕ → ℕ} {r : ℕ} → ((t : ℕ) → φ t ≡ ψ t) → Greatest φ r → Greatest ψ r
+greatest-ext {φ} {ψ} {r} e p = record {
+  instant = p .instant;
+  reached = omega (arith, e (p .instant), p .reached);
+  above = λ t. omega (arith, e t, p .above t);
+}
+
+-- compared at instants d apart, as two jitters that differ by d are: the same t
+pub greatest-le : {φ ψ : ℕ → ℕ} {r s : ℕ} (d : ℕ) → ((t : ℕ) → φ t + d ≤ ψ (t + d)) → Greatest φ r → Greatest ψ s → r ≤ s
+greatest-le {φ} {ψ} {r} {s} d h p q = omega (arith, h (p .instant), p .reached, q .above (p .instant + d))
+
+-- Where φ gains at most B over B instants, what bounds the instants below B bounds all.
+pub decides : (φ : ℕ → ℕ) (B r : ℕ) → 0 < B → ((t : ℕ) → φ (t + B) ≤ φ t + B) → ((t : ℕ) → t < B → φ t ≤ r + t) → (t : ℕ) → φ t ≤ r + t
+decides φ B r p s h t = go (suc t) t (le-refl _)
+  where
+    back : (t : ℕ) → B ≤ t → t ≡ t - B + B
+    back t b = omega arith
+
+    go : (n t : ℕ) → t < n → φ t ≤ r + t
+    go zero t q = absurd (omega arith)
+    go (suc n) t q = elim (le-or-lt B t) [
+      | inl b ↦ omega (arith, ap φ (back t b), s (t - B), go n (t - B) (omega arith))
+      | inr b ↦ h t b
+    ]
+
+pub best-above : (φ : ℕ → ℕ) (n t : ℕ) → t < n → φ t ≤ bestTo φ n + t
+unfolding bestTo
+best-above φ zero t h = absurd (omega arith)
+best-above φ (suc n) t h = elim (le-or-lt n t) [
+  | inl q ↦ subst (λ k. φ k ≤ max (bestTo φ n) (φ n - n) + k) (same q) (omega arith)
+  | inr q ↦ omega (arith, best-above φ n t q)
+]
+  where
+    same : n ≤ t → n ≡ t
+    same q = omega arith
+
+-- the best is reached, unless nothing lies above its instant
+best-reached : (φ : ℕ → ℕ) (n : ℕ) → ((t : ℕ) × (φ t ≡ bestTo φ n + t)) ⊎ (bestTo φ n ≡ 0)
+unfolding bestTo
+best-reached φ zero = inr refl
+best-reached φ (suc n) = elim (le-or-lt (φ n - n) (bestTo φ n)) [
+  | inl q ↦ elim (best-reached φ n) [ inl r ↦ inl (r .0, omega (arith, r .1)) | inr r ↦ inr (omega arith) ]
+  | inr q ↦ inl (n, omega arith)
+]
+
+-- the maximum over the instants below B is the maximum over all, and exists
+pub greatest-found : (φ : ℕ → ℕ) (B : ℕ) → 0 < B → ((t : ℕ) → φ (t + B) ≤ φ t + B) → Greatest φ (bestTo φ B)
+greatest-found φ B b s = elim (best-reached φ B) [
+  | inl r ↦ record { instant = r .0; reached = r .1; above = all }
+  | inr z ↦ record { instant = 0; reached = omega (arith, best-above φ B 0 b); above = all }
+]
+  where
+    all : (t : ℕ) → φ t ≤ bestTo φ B + t
+    all = decides φ B (bestTo φ B) b s (best-above φ B)
