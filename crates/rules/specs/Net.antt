@@ -7,6 +7,7 @@ pub record Hop : Type 0 where
   pub node : ℕ
   pub cost : ℕ
 
+-- jitter is the release jitter
 pub record Flow : Type 0 where
   pub number : ℕ
   pub priority : ℕ
@@ -23,5 +24,10 @@ pub record Net : Type 0 where
 -- a flow's bound, jitter and busy length
 pub record Figures : Type 0 where
   pub bound : ℕ
-  pub spread : ℕ
+  pub jitter : ℕ
   pub busy : ℕ
+
+-- the judgement of a set: a refusal's number and the flow named, or the figures of each flow
+pub data Judgement : Type 0 where
+  Refused : ℕ → ℕ → Judgement
+  Given : List Figures → Judgement

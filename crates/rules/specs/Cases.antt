@@ -1,0 +1,65 @@
+-- Document 01's plans tried by hand, those with *, as one list of rows under one statement: the judgement of the row's set is the expected one.
+use mathlib.Core.Path.{_≡_, refl}
+use mathlib.Core.List.{List, [], _∷_}
+use Prim.Native.Nat.{ℕ}
+use Rattle.least.specs.Count.{count, ceil}
+use Rattle.least.specs.Fold.{sumOf, maxOf, minOf, anyOf, keep}
+use Rattle.least.specs.Fixed.{climb}
+use Rattle.least.specs.Vector.{settleBy}
+use Rattle.least.specs.Instants.{bestTo}
+use Rattle.least.specs.Starts.{startTo}
+use Rattle.rules.specs.Net.{Hop, Flow, Net, Figures, Judgement, Refused, Given}
+use Rattle.rules.specs.Formula.{horizon, role, visits, prefix, before, lastNode, firstOn, lastOn, there, crossings, smin, runsAlong, along, leastCost, M, slowest, weight, ownWeight, earliest, slowestNode, plusA, lessA, term1, term2, packets, others, term3, greatestCost, term4, lowerCost, term5, term6, sum, load, jitterOf}
+use Rattle.rules.specs.Judge.{busyLength, start, response, arrivingBy, arrivalsBy, replies, round, pastHorizon, total, still, rounds, settle, figures, meetsAgain, returns, misplaced, firstOr, judged}
+
+hop : ℕ → ℕ → Hop
+hop n c = record { node = n; cost = c }
+
+-- number, priority, T, J, D, path
+flow : ℕ → ℕ → ℕ → ℕ → ℕ → List Hop → Flow
+flow n p t j d l = record { number = n; priority = p; period = t; jitter = j; deadline = d; path = l }
+
+-- one node of a cost, J = 0, D = 60
+plain : ℕ → ℕ → ℕ → ℕ → Flow
+plain n p c t = flow n p t 0 60 (hop 1 c ∷ [])
+
+-- bound/jitter/busy
+fig : ℕ → ℕ → ℕ → Figures
+fig b j l = record { bound = b; jitter = j; busy = l }
+
+pub record Row : Type 0 where
+  pub net : Net
+  pub expected : Judgement
+
+-- Lmin = Lmax = 1
+row : List Flow → Judgement → Row
+row l e = record { net = record { lmin = 1; lmax = 1; flows = l }; expected = e }
+
+pub rows : List Row
+rows =
+    -- 2, 3, 4, 5
+    row (flow 1 0 20 0 60 (hop 1 4 ∷ hop 2 4 ∷ []) ∷ []) (Given (fig 9 0 4 ∷ []))
+    ∷ row (plain 1 0 3 10 ∷ plain 2 0 5 20 ∷ []) (Given (fig 8 5 8 ∷ fig 8 3 8 ∷ []))
+    ∷ row (plain 1 1 3 10 ∷ plain 2 0 5 20 ∷ []) (Given (fig 7 4 3 ∷ fig 8 3 8 ∷ []))
+    ∷ row (flow 1 1 10 8 60 (hop 1 3 ∷ []) ∷ plain 2 0 5 20 ∷ []) (Given (fig 15 12 3 ∷ fig 11 6 8 ∷ []))
+    -- 6, 7, 8
+    ∷ row (flow 1 0 100 10 60 (hop 1 1 ∷ []) ∷ plain 2 0 50 100 ∷ []) (Given (fig 51 50 51 ∷ fig 51 1 51 ∷ []))
+    ∷ row (flow 1 0 20 0 60 (hop 1 4 ∷ hop 2 4 ∷ []) ∷ flow 2 0 20 0 60 (hop 2 3 ∷ []) ∷ []) (Given (fig 12 3 7 ∷ fig 7 4 7 ∷ []))
+    ∷ row (plain 1 0 5 10 ∷ plain 2 0 5 10 ∷ []) (Given (fig 10 5 10 ∷ fig 10 5 10 ∷ []))
+    -- 9
+    ∷ row (plain 1 0 6 10 ∷ plain 2 0 5 10 ∷ []) (Refused 8 1)
+    -- 10
+    ∷ row (flow 1 0 10 65534 65535 (hop 1 1 ∷ []) ∷ []) (Given (fig 65535 65534 1 ∷ []))
+    ∷ row (flow 1 0 10 65535 65535 (hop 1 1 ∷ []) ∷ []) (Refused 9 0)
+    -- 11
+    ∷ row (plain 1 1 3 10 ∷ flow 2 0 20 0 8 (hop 1 5 ∷ []) ∷ []) (Given (fig 7 4 3 ∷ fig 8 3 8 ∷ []))
+    ∷ row (plain 1 1 3 10 ∷ flow 2 0 20 0 7 (hop 1 5 ∷ []) ∷ []) (Refused 10 2)
+    ∷ []
+
+pub Right : List Row → Type 0
+Right [] = Unit {0}
+Right (r ∷ l) = (judged (r .net) ≡ r .expected) × Right l
+
+pub worked : Right rows
+unfolding Right rows hop flow plain fig row count ceil sumOf maxOf minOf anyOf keep climb settleBy bestTo startTo horizon role visits prefix before lastNode firstOn lastOn there crossings smin runsAlong along leastCost M slowest weight ownWeight earliest slowestNode plusA lessA term1 term2 packets others term3 greatestCost term4 lowerCost term5 term6 sum load jitterOf busyLength start response arrivingBy arrivalsBy replies round pastHorizon total still rounds settle figures meetsAgain returns misplaced firstOr judged
+worked = (refl, (refl, (refl, (refl, (refl, (refl, (refl, (refl, (refl, (refl, (refl, (refl, tt))))))))))))

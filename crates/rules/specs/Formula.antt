@@ -1,0 +1,212 @@
+-- Document 01, "Reading the trajectory formula", in its order and words. Naturals only: an instant t ≥ −J is u = t + J, and a count
+-- of x = a − b is count a b T; proofs/Whole shows that nothing is lost.
+use mathlib.Core.Bool.{Bool, true, false, not}
+use mathlib.Core.List.{List, [], _∷_, map}
+use Prim.Native.Nat.{ℕ, _+_, _-_, _*_, max}
+use lib.Dec.{ltb, eqb}
+use lib.ListN.{length}
+use Rattle.least.specs.Count.{pick, count, ceil}
+use Rattle.least.specs.Fold.{sumOf, maxOf, minOf, only, anyOf, keep}
+use Rattle.rules.specs.Net.{Hop, Flow, Net}
+
+-- the horizon H
+unfoldable pub horizon : ℕ
+horizon = 65535
+
+abbrev pub both : Bool → Bool → Bool
+both a b = pick a b false
+
+-- "Higher", "equal" and "lower" are by priority; equal leaves out the flow itself.
+pub data Role : Type 0 where
+  Own : Role
+  Higher : Role
+  Equal : Role
+  Lower : Role
+
+unfoldable pub role : Flow → Flow → Role
+role i j =
+    pick (eqb (i .number) (j .number)) Own
+    (pick (ltb (i .priority) (j .priority)) Higher (pick (eqb (i .priority) (j .priority)) Equal Lower))
+
+abbrev pub higherOrEqual : Role → Bool
+higherOrEqual Own = false
+higherOrEqual Higher = true
+higherOrEqual Equal = true
+higherOrEqual Lower = false
+
+abbrev pub lower : Role → Bool
+lower Own = false
+lower Higher = false
+lower Equal = false
+lower Lower = true
+
+-- Paths. The prefix at h is the path up to and including h.
+unfoldable pub visits : List Hop → ℕ → Bool
+visits l h = anyOf (λ k. eqb (k .node) h) l
+
+unfoldable pub prefix : ℕ → List Hop → List Hop
+prefix h [] = []
+prefix h (k ∷ ks) = k ∷ pick (eqb (k .node) h) [] (prefix h ks)
+
+unfoldable pub before : ℕ → List Hop → List Hop
+before h [] = []
+before h (k ∷ ks) = pick (eqb (k .node) h) [] (k ∷ before h ks)
+
+unfoldable pub lastNode : List Hop → ℕ
+lastNode [] = 0
+lastNode (k ∷ []) = k .node
+lastNode (k ∷ (m ∷ ms)) = lastNode (m ∷ ms)
+
+-- the first node of a that b visits, and the last; 0 and h if there is none
+unfoldable pub firstOn : List Hop → List Hop → ℕ
+firstOn [] b = 0
+firstOn (k ∷ a) b = pick (visits b (k .node)) (k .node) (firstOn a b)
+
+unfoldable pub lastOn : ℕ → List Hop → List Hop → ℕ
+lastOn h [] b = h
+lastOn h (k ∷ a) b = lastOn (pick (visits b (k .node)) (k .node) h) a b
+
+-- C at a node: 0 where the path does not pass. "A cost serves as most and as least."
+abbrev pub least : Hop → ℕ
+least k = k .cost
+
+unfoldable pub there : (Hop → ℕ) → List Hop → ℕ → ℕ
+there f l h = maxOf (only (λ k. eqb (k .node) h) f) l
+
+abbrev pub costAt : List Hop → ℕ → ℕ
+costAt l h = there (λ k. k .cost) l h
+
+-- A flow crosses a prefix if it visits a node of it.
+unfoldable pub crosses : List Hop → List Hop → Bool
+crosses P l = anyOf (λ k. visits P (k .node)) l
+
+-- A flow as i's path meets it: the nodes that they share, in that flow's order. One that does not cross has none, and adds nothing.
+pub record Crossing : Type 0 where
+  pub flow : Flow
+  pub part : List Hop
+
+unfoldable pub crossings : Net → Flow → List Crossing
+crossings N i = map (λ j. record { flow = j; part = keep (λ k. visits (i .path) (k .node)) (j .path) }) (N .flows)
+
+-- Smin(j,h)
+unfoldable pub smin : Net → Flow → ℕ → ℕ
+smin N j h = sumOf (λ k. least k + N .lmin) (before h (j .path))
+
+-- S, of a flow's number and a node
+abbrev pub Key : Type 0
+Key = ℕ × ℕ
+
+abbrev pub Arrivals : Type 0
+Arrivals = Key → ℕ
+
+-- j runs along i on P, a prefix of i's path or the whole
+unfoldable pub runsAlong : List Hop → Crossing → Bool
+runsAlong P j = eqb (firstOn (j .part) P) (firstOn P (j .part))
+
+-- the higher and equal flows that run along i on P
+unfoldable pub along : Flow → List Hop → Crossing → Bool
+along i P j = both (higherOrEqual (role i (j .flow))) (runsAlong P j)
+
+-- M(i,h)
+unfoldable pub leastCost : Net → Flow → Hop → ℕ
+leastCost N i k =
+    minOf (least k)
+    (λ j. pick (both (along i (i .path) j) (visits (j .part) (k .node))) (there least (j .part) (k .node)) (least k)) (crossings N i)
+
+unfoldable pub M : Net → Flow → ℕ → ℕ
+M N i h = sumOf (λ k. N .lmin + leastCost N i k) (before h (i .path))
+
+-- Slowest cost on P; the weight of a packet of j is that of its part; i's slowest node is the earliest with that cost.
+unfoldable pub slowest : List Hop → List Hop → ℕ
+slowest P l = maxOf (only (λ k. visits P (k .node)) (λ k. k .cost)) l
+
+unfoldable pub weight : List Hop → Crossing → ℕ
+weight P j = slowest P (j .part)
+
+unfoldable pub ownWeight : List Hop → Flow → ℕ
+ownWeight P i = slowest P (i .path)
+
+unfoldable pub earliest : ℕ → List Hop → ℕ
+earliest c [] = 0
+earliest c (k ∷ ks) = pick (eqb (k .cost) c) (k .node) (earliest c ks)
+
+unfoldable pub slowestNode : List Hop → Flow → ℕ
+slowestNode P i = earliest (slowest P (i .path)) P
+
+module _ (N : Net) (i : Flow) where
+  module _ (S : Arrivals) (P : List Hop) (h : ℕ) where
+    -- A(i,j) = S(j,f) − M(i,f) + J of j, f the first node of i on j's path: what it adds, and what it takes off
+    unfoldable pub plusA : Crossing → ℕ
+    plusA j = S (j .flow .number, firstOn P (j .part)) + j .flow .jitter
+
+    unfoldable pub lessA : Crossing → ℕ
+    lessA j = M N i (firstOn P (j .part))
+
+    -- 1. packets of a higher flow: count(V − Smin(j,l) + A, T), l the last node of i on j's path; x gives W at the nodes before h
+    unfoldable pub term1 : (ℕ → ℕ) → ℕ → Crossing → ℕ
+    term1 x w j =
+        let l = lastOn h P (j .part) in
+        count (pick (eqb l h) w (x l) + plusA j) (smin N (j .flow) l + lessA j) (j .flow .period)
+
+    -- 2. packets of an equal flow: count(t + S(i,g) − Smin(j,g) + A, T), g the first node that j visits
+    unfoldable pub term2 : ℕ → Crossing → ℕ
+    term2 u j =
+        let g = firstOn (j .part) P in
+        count (u + S (i .number, g) + plusA j) (i .jitter + smin N (j .flow) g + lessA j) (j .flow .period)
+
+    unfoldable pub packets : ℕ → (ℕ → ℕ) → ℕ → Crossing → Role → ℕ
+    packets u x w j Own = 0
+    packets u x w j Higher = term1 x w j
+    packets u x w j Equal = term2 u j
+    packets u x w j Lower = 0
+
+    -- 1 and 2: packets × slowest cost, over the crossing flows
+    unfoldable pub others : ℕ → (ℕ → ℕ) → ℕ → ℕ
+    others u x w = sumOf (λ j. packets u x w j (role i (j .flow)) * weight P j) (crossings N i)
+
+  -- 3. i itself
+  unfoldable pub term3 : List Hop → ℕ → ℕ
+  term3 P u = count u 0 (i .period) * ownWeight P i
+
+  -- 4. the greatest cost at each node but i's slowest
+  unfoldable pub greatestCost : List Hop → Hop → ℕ
+  greatestCost P k = max (k .cost) (maxOf (only (along i P) (λ j. costAt (j .part) (k .node))) (crossings N i))
+
+  unfoldable pub term4 : List Hop → ℕ
+  term4 P = sumOf (λ k. pick (eqb (k .node) (slowestNode P i)) 0 (greatestCost P k)) P
+
+  -- 5. the greatest lower cost at each node, less 1
+  unfoldable pub lowerCost : Hop → ℕ
+  lowerCost k = maxOf (only (λ j. lower (role i (j .flow))) (λ j. costAt (j .part) (k .node))) (crossings N i)
+
+  unfoldable pub term5 : List Hop → ℕ
+  term5 P = sumOf (λ k. lowerCost k - 1) P
+
+  -- 6. without the cost that is taken off
+  unfoldable pub term6 : List Hop → ℕ
+  term6 P = (length P - 1) * N .lmax
+
+  -- the sum at h, for the instant u, with x for W at the nodes before h and w for W at h
+  unfoldable pub sum : Arrivals → ℕ → ℕ → (ℕ → ℕ) → ℕ → ℕ
+  sum S u h x w =
+      let P = prefix h (i .path) in
+      others S P h u x w + term3 P u + term4 P + term5 P + term6 P - costAt (i .path) h
+
+  -- the right side of the busy length's equation
+  unfoldable pub load : ℕ → ℕ
+  load b =
+      ceil b (i .period) * ownWeight (i .path) i
+      + sumOf (only (λ j. higherOrEqual (role i (j .flow))) (λ j. ceil b (j .flow .period) * weight (i .path) j)) (crossings N i)
+
+-- S(j,h) along a path from a at its first node: elsewhere the response bound R at the node before, plus Lmax
+unfoldable pub arriving : ℕ → (ℕ → ℕ) → ℕ → List Hop → ℕ → ℕ
+arriving lmax R a [] h = 0
+arriving lmax R a (k ∷ ks) h = pick (eqb (k .node) h) a (arriving lmax R (R (k .node) + lmax) ks h)
+
+-- The arrival bounds that the response bounds R give: of the flow with that number, at a node of its path; 0 elsewhere.
+unfoldable pub arrivals : Net → (Flow → ℕ → ℕ) → Arrivals
+arrivals N R k = maxOf (only (λ i. eqb (i .number) (k .0)) (λ i. arriving (N .lmax) (R i) 0 (i .path) (k .1))) (N .flows)
+
+-- the bound less the sum of the costs and (nodes − 1) × Lmin
+unfoldable pub jitterOf : Net → Flow → ℕ → ℕ
+jitterOf N i bound = bound - (sumOf least (i .path) + (length (i .path) - 1) * N .lmin)

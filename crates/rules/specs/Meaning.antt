@@ -1,0 +1,78 @@
+-- What document 01 says of the formula: the statements by which its figures and refusals are meant.
+use mathlib.Core.Path.{_≡_}
+use mathlib.Core.Bool.{true}
+use mathlib.Core.List.{List, [], _∷_, map, List·Memᴰ, Sublistᴰ}
+use Prim.Native.Nat.{ℕ, _+_, _≤_, _<_}
+use Rattle.least.specs.Fixed.{Smallest}
+use Rattle.least.specs.Instants.{Greatest}
+use Rattle.rules.specs.Net.{Hop, Flow, Net, Figures, Judgement, Refused, Given}
+use Rattle.rules.specs.Formula.{horizon, visits, lastNode, costAt, Arrivals, sum, load, arrivals, jitterOf}
+
+abbrev pub On : Flow → ℕ → Type 0
+On i h = visits (i .path) h ≡ true
+
+module _ (N : Net) where
+  abbrev pub Here : Flow → Type 0
+  Here i = List·Memᴰ i (N .flows)
+
+  -- "The starting time W(i,h,t), for release instant t ≥ −J, is the least whole number W ≥ 0 equal to the sum", with W itself at earlier nodes
+  abbrev pub IsStart : Flow → Arrivals → (ℕ → ℕ → ℕ) → Type 0
+  IsStart i S W = (u h : ℕ) → On i h → Smallest 0 (sum N i S u h (W u)) (W u h)
+
+  -- "Response bound at h: the maximum over all t ≥ −J of W + C − t"
+  pub record IsResponse (i : Flow) (S : Arrivals) (h r : ℕ) : Type 0 where
+    pub W : ℕ → ℕ → ℕ
+    pub start : IsStart i S W
+    pub greatest : Greatest (λ u. W u h + costAt (i .path) h + i .jitter) r
+
+  -- "The flow's bound is that at its last node."
+  abbrev pub IsBound : Flow → Arrivals → ℕ → Type 0
+  IsBound i S b = IsResponse i S (lastNode (i .path)) b
+
+  -- "Busy length of i: the least B from 1 to H with B equal to the sum"
+  pub record IsBusy (i : Flow) (B : ℕ) : Type 0 where
+    pub smallest : Smallest 1 (load N i) B
+    pub within : B ≤ horizon
+
+  -- "A settled set of arrival bounds meets every equation above with every response bound, at every node, at most H."
+  pub record Settled (S : Arrivals) : Type 0 where
+    pub R : Flow → ℕ → ℕ
+    pub response : (i : Flow) → Here i → (h : ℕ) → On i h → IsResponse i S h (R i h)
+    pub meets : (k : ℕ × ℕ) → S k ≡ arrivals N R k
+    pub within : (i : Flow) → Here i → (h : ℕ) → On i h → R i h ≤ horizon
+
+  -- "The least settled one is meant, entry by entry."
+  pub record LeastSettled (S : Arrivals) : Type 0 where
+    pub settled : Settled S
+    pub lowest : (U : Arrivals) → Settled U → (k : ℕ × ℕ) → S k ≤ U k
+
+  pub record IsFigures (S : Arrivals) (i : Flow) (f : Figures) : Type 0 where
+    pub bound : IsBound i S (f .bound)
+    pub jitter : f .jitter ≡ jitterOf N i (f .bound)
+    pub busy : IsBusy i (f .busy)
+
+  -- "every node of j's path between two of its nodes on i's path is itself on i's path"
+  abbrev pub Keeps : Flow → Flow → Type 0
+  Keeps i j = (k m n : Hop) → Sublistᴰ (k ∷ m ∷ n ∷ []) (j .path) → On i (k .node) → On i (n .node) → On i (m .node)
+
+  -- "for flows i and j with j's priority at least i's"
+  abbrev pub Permitted : Flow → Type 0
+  Permitted i = (j : Flow) → Here j → i .priority ≤ j .priority → Keeps i j
+
+  -- n is the least number of a flow at fault
+  pub record Named (AtFault : Flow → Type 0) (n : ℕ) : Type 0 where
+    pub flow : Flow
+    pub here : Here flow
+    pub number : flow .number ≡ n
+    pub fault : AtFault flow
+    pub lowest : (j : Flow) → Here j → AtFault j → n ≤ j .number
+
+  -- The lowest of 7, 8, 9 and 10 that applies, with the flow that document 01 names; otherwise the figures of each flow.
+  pub data Judged : Judgement → Type 0 where
+    crossing : (n : ℕ) → Named (λ i. Permitted i → ⊥) n → Judged (Refused 7 n)
+    overload : (n : ℕ) → ((i : Flow) → Here i → Permitted i) → Named (λ i. (B : ℕ) → IsBusy i B → ⊥) n → Judged (Refused 8 n)
+    unsettled : ((i : Flow) → Here i → Permitted i) → ((i : Flow) → Here i → (B : ℕ) × IsBusy i B) → ((S : Arrivals) → Settled S → ⊥) → Judged (Refused 9 0)
+    late : (n : ℕ) (S : Arrivals) (f : Flow → Figures) → ((i : Flow) → Here i → Permitted i) → LeastSettled S → ((i : Flow) → Here i → IsFigures S i (f i)) →
+        Named (λ i. i .deadline < f i .bound) n → Judged (Refused 10 n)
+    given : (S : Arrivals) (f : Flow → Figures) → ((i : Flow) → Here i → Permitted i) → LeastSettled S → ((i : Flow) → Here i → IsFigures S i (f i)) →
+        ((i : Flow) → Here i → f i .bound ≤ i .deadline) → Judged (Given (map f (N .flows)))
