@@ -86,8 +86,11 @@ count-add a b c t p =
     count-le (a + c) b t (count a b t + ceil c t) p
     (omega (arith, le-count a b t (count a b t) p (le-refl _), le-ceil c t (ceil c t) p (le-refl _)))
 
-pub count-grows : (a a′ b c t : ℕ) → 0 < t → a′ ≤ a + c → count a′ b t ≤ count a b t + ceil c t
-count-grows a a′ b c t p h = le-trans (count-mono b t p h) (count-add a b c t p)
+-- Compared as differences: a − b at most c above a′ − b′.
+pub count-grows : (a b a′ b′ c t : ℕ) → 0 < t → a + b′ ≤ a′ + b + c → count a b t ≤ count a′ b′ t + ceil c t
+count-grows a b a′ b′ c t p h =
+    count-le a b t (count a′ b′ t + ceil c t) p
+    (omega (arith, le-count a′ b′ t (count a′ b′ t) p (le-refl _), le-ceil c t (ceil c t) p (le-refl _)))
 
 -- at least one packet in a span that is not negative, at most one a tick and one
 pub count-some : (a b t : ℕ) → 0 < t → b ≤ a → 0 < count a b t

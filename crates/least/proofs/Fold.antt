@@ -39,6 +39,11 @@ module _ {A : Type 0} where
   sum-ext f g [] h = refl
   sum-ext f g (x ∷ xs) h = omega (arith, h x (List·Memᴰ·head refl), sum-ext f g xs (λ y m. h y (List·Memᴰ·tail m)))
 
+  pub sum-none : (f : A → ℕ) (l : List A) → ((x : A) → List·Memᴰ x l → f x ≡ 0) → sumOf f l ≡ 0
+  unfolding sumOf
+  sum-none f [] h = refl
+  sum-none f (x ∷ xs) h = omega (arith, h x (List·Memᴰ·head refl), sum-none f xs (λ y m. h y (List·Memᴰ·tail m)))
+
   pub sum-add : (f g : A → ℕ) (l : List A) → sumOf (λ x. f x + g x) l ≡ sumOf f l + sumOf g l
   unfolding sumOf
   sum-add f g [] = refl

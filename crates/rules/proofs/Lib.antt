@@ -1,0 +1,4 @@
+pub mod Path
+pub mod Grow
+pub mod Busy
+pub mod Start
