@@ -2,3 +2,5 @@ pub mod Path
 pub mod Grow
 pub mod Busy
 pub mod Start
+pub mod Below
+pub mod Settle
