@@ -29,10 +29,10 @@ module _ {A : Type 0} where
   sum-lt f g h (List·Memᴰ·head {x = x} {xs = xs} e) q = omega (arith, ap f e, ap g e, sum-le f g xs (λ z m. h z (List·Memᴰ·tail m)))
   sum-lt f g h (List·Memᴰ·tail {x = x} {xs = xs} m) q = omega (arith, h x (List·Memᴰ·head refl), sum-lt f g (λ z n. h z (List·Memᴰ·tail n)) m q)
 
-  pub sum-tight : (f g : A → ℕ) (l : List A) → ((x : A) → f x ≤ g x) → sumOf g l ≤ sumOf f l → (x : A) → List·Memᴰ x l → g x ≤ f x
+  pub sum-tight : (f g : A → ℕ) (l : List A) → ((x : A) → List·Memᴰ x l → f x ≤ g x) → sumOf g l ≤ sumOf f l → (x : A) → List·Memᴰ x l → g x ≤ f x
   unfolding sumOf
-  sum-tight f g (y ∷ l) h t x (List·Memᴰ·head e) = omega (arith, h y, ap f e, ap g e, sum-le f g l (λ z m. h z))
-  sum-tight f g (y ∷ l) h t x (List·Memᴰ·tail m) = sum-tight f g l h (omega (arith, h y)) x m
+  sum-tight f g (y ∷ l) h t x (List·Memᴰ·head e) = omega (arith, h y (List·Memᴰ·head refl), ap f e, ap g e, sum-le f g l (λ z m. h z (List·Memᴰ·tail m)))
+  sum-tight f g (y ∷ l) h t x (List·Memᴰ·tail m) = sum-tight f g l (λ z n. h z (List·Memᴰ·tail n)) (omega (arith, h y (List·Memᴰ·head refl))) x m
 
   pub sum-ext : (f g : A → ℕ) (l : List A) → ((x : A) → List·Memᴰ x l → f x ≡ g x) → sumOf f l ≡ sumOf g l
   unfolding sumOf

@@ -50,7 +50,7 @@ module _ {I : Type 0} where
       (few : (i : I) → List·Memᴰ i places ⊎ ((S : I → ℕ) → F S i ≡ 0)) where
     no-gain : (S : I → ℕ) → Underᵛ F S → sumOf (F S) places ≤ sumOf S places → F S ⊑ S
     no-gain S u h i = elim (few i) [
-      | inl r ↦ sum-tight S (F S) places (u .up) h i r
+      | inl r ↦ sum-tight S (F S) places (λ j q. u .up j) h i r
       | inr z ↦ omega (arith, z S)
     ]
 

@@ -4,3 +4,5 @@ pub mod Busy
 pub mod Start
 pub mod Below
 pub mod Settle
+pub mod Crossing
+pub mod Valid

@@ -31,9 +31,12 @@ pub record Row : Type 0 where
   pub net : Net
   pub expected : Judgement
 
--- Lmin = Lmax = 1
+-- Lmin = 1, and Lmax
+on : ℕ → List Flow → Judgement → Row
+on m l e = record { net = record { lmin = 1; lmax = m; flows = l }; expected = e }
+
 row : List Flow → Judgement → Row
-row l e = record { net = record { lmin = 1; lmax = 1; flows = l }; expected = e }
+row l e = on 1 l e
 
 pub rows : List Row
 rows =
@@ -56,10 +59,35 @@ rows =
     ∷ row (plain 1 1 3 10 ∷ flow 2 0 20 0 7 (hop 1 5 ∷ []) ∷ []) (Refused 10 2)
     ∷ []
 
+-- Small sets that tell the formula from readings near it. The expected figures were worked out by the second program, from document 01's text.
+pub apart : List Row
+apart =
+    on 1 (flow 1 1 20 0 60 (hop 1 2 ∷ hop 2 1 ∷ hop 3 1 ∷ []) ∷ flow 2 2 20 0 60 (hop 3 1 ∷ hop 1 1 ∷ []) ∷ flow 3 2 3 0 60 (hop 2 1 ∷ []) ∷ []) (Given (fig 8 2 5 ∷ fig 4 1 1 ∷ fig 1 0 1 ∷ []))
+    ∷ on 1 (flow 1 1 20 0 60 (hop 1 1 ∷ hop 2 1 ∷ []) ∷ flow 2 2 20 0 60 (hop 1 2 ∷ hop 2 1 ∷ []) ∷ []) (Given (fig 3 0 3 ∷ fig 4 0 2 ∷ []))
+    ∷ on 1 (flow 1 1 20 0 60 (hop 1 1 ∷ hop 2 1 ∷ []) ∷ flow 2 2 3 0 60 (hop 1 1 ∷ []) ∷ []) (Given (fig 4 1 2 ∷ fig 1 0 1 ∷ []))
+    ∷ on 1 (flow 1 1 20 0 60 (hop 1 2 ∷ []) ∷ flow 2 1 20 0 60 (hop 1 1 ∷ hop 2 1 ∷ []) ∷ []) (Given (fig 3 1 3 ∷ fig 5 2 3 ∷ []))
+    ∷ on 1 (flow 1 1 20 0 60 (hop 1 1 ∷ hop 2 2 ∷ []) ∷ flow 2 2 20 0 60 (hop 1 1 ∷ hop 2 1 ∷ []) ∷ []) (Given (fig 5 1 3 ∷ fig 4 1 1 ∷ []))
+    ∷ on 1 (flow 1 1 20 65531 65535 (hop 1 2 ∷ hop 2 1 ∷ []) ∷ flow 2 2 20 0 60 (hop 1 3 ∷ hop 2 1 ∷ []) ∷ []) (Refused 9 0)
+    ∷ on 1 (flow 1 1 20 0 60 (hop 1 1 ∷ hop 2 1 ∷ []) ∷ flow 2 1 20 0 60 (hop 2 1 ∷ []) ∷ []) (Given (fig 4 1 2 ∷ fig 2 1 2 ∷ []))
+    ∷ on 1 (flow 1 1 5 0 60 (hop 1 1 ∷ hop 2 2 ∷ []) ∷ flow 2 1 20 0 60 (hop 2 1 ∷ hop 1 1 ∷ []) ∷ []) (Given (fig 5 1 3 ∷ fig 7 4 3 ∷ []))
+    ∷ on 1 (flow 1 2 20 0 60 (hop 1 1 ∷ []) ∷ flow 2 1 20 0 60 (hop 1 1 ∷ []) ∷ []) (Given (fig 1 0 1 ∷ fig 2 1 2 ∷ []))
+    ∷ on 1 (flow 1 1 7 0 60 (hop 1 1 ∷ hop 2 1 ∷ []) ∷ flow 2 1 20 0 60 (hop 2 2 ∷ hop 1 1 ∷ []) ∷ []) (Given (fig 5 2 3 ∷ fig 6 2 3 ∷ []))
+    ∷ on 1 (flow 1 1 20 0 60 (hop 1 1 ∷ hop 2 1 ∷ []) ∷ flow 2 1 9 0 60 (hop 2 2 ∷ hop 1 1 ∷ []) ∷ []) (Given (fig 5 2 3 ∷ fig 5 1 3 ∷ []))
+    ∷ on 1 (flow 1 1 4 0 60 (hop 2 1 ∷ []) ∷ flow 2 1 20 0 60 (hop 1 4 ∷ hop 2 1 ∷ []) ∷ []) (Given (fig 2 1 2 ∷ fig 7 1 6 ∷ []))
+    ∷ on 1 (flow 1 1 20 0 60 (hop 1 1 ∷ hop 2 1 ∷ []) ∷ flow 2 1 20 0 60 (hop 2 2 ∷ hop 1 1 ∷ []) ∷ []) (Given (fig 5 2 3 ∷ fig 5 1 3 ∷ []))
+    ∷ on 2 (flow 1 1 20 0 60 (hop 1 1 ∷ hop 2 1 ∷ []) ∷ flow 2 1 20 1 60 (hop 2 1 ∷ []) ∷ []) (Given (fig 5 2 2 ∷ fig 3 2 2 ∷ []))
+    ∷ on 2 (flow 1 1 20 0 60 (hop 1 1 ∷ hop 2 1 ∷ []) ∷ flow 2 2 4 0 60 (hop 2 2 ∷ []) ∷ []) (Given (fig 9 6 3 ∷ fig 2 0 2 ∷ []))
+    ∷ on 2 (flow 1 1 20 0 60 (hop 1 1 ∷ hop 2 1 ∷ []) ∷ []) (Given (fig 4 1 1 ∷ []))
+    ∷ []
+
 pub Right : List Row → Type 0
 Right [] = Unit {0}
 Right (r ∷ l) = (judged (r .net) ≡ r .expected) × Right l
 
 pub worked : Right rows
-unfolding Right rows hop flow plain fig row count ceil sumOf maxOf minOf anyOf keep climb settleBy bestTo startTo horizon role visits prefix before lastNode firstOn lastOn there crossings smin runsAlong along leastCost M slowest weight ownWeight earliest slowestNode plusA lessA term1 term2 packets others term3 greatestCost term4 lowerCost term5 term6 sum load jitterOf busyLength start response arrivingBy arrivalsBy replies round pastHorizon total still rounds settle figures meetsAgain returns misplaced firstOr judged
+unfolding Right rows hop flow plain fig on row count ceil sumOf maxOf minOf anyOf keep climb settleBy bestTo startTo horizon role visits prefix before lastNode firstOn lastOn there crossings smin runsAlong along leastCost M slowest weight ownWeight earliest slowestNode plusA lessA term1 term2 packets others term3 greatestCost term4 lowerCost term5 term6 sum load jitterOf busyLength start response arrivingBy arrivalsBy replies round pastHorizon total still rounds settle figures meetsAgain returns misplaced firstOr judged
 worked = (refl, (refl, (refl, (refl, (refl, (refl, (refl, (refl, (refl, (refl, (refl, (refl, tt))))))))))))
+
+pub told-apart : Right apart
+unfolding Right apart hop flow plain fig on row count ceil sumOf maxOf minOf anyOf keep climb settleBy bestTo startTo horizon role visits prefix before lastNode firstOn lastOn there crossings smin runsAlong along leastCost M slowest weight ownWeight earliest slowestNode plusA lessA term1 term2 packets others term3 greatestCost term4 lowerCost term5 term6 sum load jitterOf busyLength start response arrivingBy arrivalsBy replies round pastHorizon total still rounds settle figures meetsAgain returns misplaced firstOr judged
+told-apart = (refl, (refl, (refl, (refl, (refl, (refl, (refl, (refl, (refl, (refl, (refl, (refl, (refl, (refl, (refl, (refl, tt))))))))))))))))

@@ -1,5 +1,6 @@
 pub mod Net
 pub mod Formula
 pub mod Meaning
+pub mod Valid
 pub mod Judge
 pub mod Cases

@@ -67,12 +67,17 @@ module _ (N : Net) where
     pub fault : AtFault flow
     pub lowest : (j : Flow) → Here j → AtFault j → n ≤ j .number
 
-  -- The lowest of 7, 8, 9 and 10 that applies, with the flow that document 01 names; otherwise the figures of each flow.
-  pub data Judged : Judgement → Type 0 where
-    crossing : (n : ℕ) → Named (λ i. Permitted i → ⊥) n → Judged (Refused 7 n)
-    overload : (n : ℕ) → ((i : Flow) → Here i → Permitted i) → Named (λ i. (B : ℕ) → IsBusy i B → ⊥) n → Judged (Refused 8 n)
-    unsettled : ((i : Flow) → Here i → Permitted i) → ((i : Flow) → Here i → (B : ℕ) × IsBusy i B) → ((S : Arrivals) → Settled S → ⊥) → Judged (Refused 9 0)
-    late : (n : ℕ) (S : Arrivals) (f : Flow → Figures) → ((i : Flow) → Here i → Permitted i) → LeastSettled S → ((i : Flow) → Here i → IsFigures S i (f i)) →
-        Named (λ i. i .deadline < f i .bound) n → Judged (Refused 10 n)
-    given : (S : Arrivals) (f : Flow → Figures) → ((i : Flow) → Here i → Permitted i) → LeastSettled S → ((i : Flow) → Here i → IsFigures S i (f i)) →
-        ((i : Flow) → Here i → f i .bound ≤ i .deadline) → Judged (Given (map f (N .flows)))
+  -- "The lowest number that applies": this one, naming the least flow at fault, or none is and what comes next decides.
+  pub data Lowest (refusal : ℕ) (AtFault : Flow → Type 0) (Next : Judgement → Type 0) : Judgement → Type 0 where
+    applies : (n : ℕ) → Named AtFault n → Lowest refusal AtFault Next (Refused refusal n)
+    passes : (v : Judgement) → ((i : Flow) → Here i → AtFault i → ⊥) → Next v → Lowest refusal AtFault Next v
+
+  -- 9, or the figures that the least settled arrival bounds give, unless one is late
+  pub data Settles : Judgement → Type 0 where
+    unsettled : ((S : Arrivals) → Settled S → ⊥) → Settles (Refused 9 0)
+    settled : (v : Judgement) (S : Arrivals) (f : Flow → Figures) → LeastSettled S → ((i : Flow) → Here i → IsFigures S i (f i)) →
+        Lowest 10 (λ i. i .deadline < f i .bound) (λ v. v ≡ Given (map f (N .flows))) v → Settles v
+
+  -- the judgement of a set
+  abbrev pub Judged : Judgement → Type 0
+  Judged = Lowest 7 (λ i. Permitted i → ⊥) (Lowest 8 (λ i. (B : ℕ) → IsBusy i B → ⊥) Settles)
