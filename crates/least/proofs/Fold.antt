@@ -1,10 +1,11 @@
 -- Laws of sums, greatest and least values over a list. Hypotheses speak of the list's members alone. Assumes nothing.
-use mathlib.Core.Path.{_≡_, refl, _∙_, sym, ap}
+use mathlib.Core.Path.{_≡_, refl, _∙_, sym, ap, ap₂}
 use mathlib.Core.Bool.{Bool, true, false}
 use mathlib.Core.Logic.{_⊎_, inl, inr}
 use mathlib.Core.List.{List, [], _∷_, _++_, map, List·Memᴰ, List·Memᴰ·head, List·Memᴰ·tail, Sublistᴰ, Sublistᴰ·slnil, Sublistᴰ·cons, Sublistᴰ·cons-cons}
 use Prim.Native.Nat.{ℕ, _+_, _*_, _≤_, _<_, max, min}
 use native.Mathlib.Omega.{arith}
+use lib.ListN.{length}
 use Rattle.least.specs.Count.{pick}
 use Rattle.least.specs.Fold.{sumOf, maxOf, minOf, only, anyOf, keep}
 
@@ -48,6 +49,11 @@ module _ {A : Type 0} where
   unfolding sumOf
   sum-add f g [] = refl
   sum-add f g (x ∷ xs) = omega (arith, sum-add f g xs)
+
+  pub sum-bound : (f : A → ℕ) (l : List A) (k : ℕ) → ((x : A) → List·Memᴰ x l → f x ≤ k) → sumOf f l ≤ length l * k
+  unfolding sumOf
+  sum-bound f [] k h = omega arith
+  sum-bound f (x ∷ xs) k h = omega (arith, h x (List·Memᴰ·head refl), sum-bound f xs k (λ y m. h y (List·Memᴰ·tail m)))
 
   pub sum-append : (f : A → ℕ) (l m : List A) → sumOf f (l ++ m) ≡ sumOf f l + sumOf f m
   unfolding sumOf
@@ -157,6 +163,16 @@ pub max-map : {A B : Type 0} (f : B → ℕ) (g : A → B) (l : List A) → maxO
 unfolding maxOf
 max-map f g [] = refl
 max-map f g (x ∷ xs) = omega (arith, max-map f g xs)
+
+pub any-map : {A B : Type 0} (p : B → Bool) (g : A → B) (l : List A) → anyOf p (map g l) ≡ anyOf (λ x. p (g x)) l
+unfolding anyOf
+any-map p g [] = refl
+any-map p g (x ∷ xs) = ap (λ r. pick (p (g x)) true r) (any-map p g xs)
+
+pub any-ext : {A : Type 0} (p q : A → Bool) (l : List A) → ((x : A) → p x ≡ q x) → anyOf p l ≡ anyOf q l
+unfolding anyOf
+any-ext p q [] h = refl
+any-ext p q (x ∷ xs) h = ap₂ (λ b r. pick b true r) (h x) (any-ext p q xs h)
 
 pub sublist-map : {A B : Type 0} (g : A → B) {l m : List A} → Sublistᴰ l m → Sublistᴰ (map g l) (map g m)
 sublist-map g Sublistᴰ·slnil = Sublistᴰ·slnil

@@ -6,3 +6,4 @@ pub mod Below
 pub mod Settle
 pub mod Crossing
 pub mod Valid
+pub mod Rounds

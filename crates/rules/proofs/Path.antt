@@ -11,7 +11,7 @@ use borrow.Author.Tests.{eqb-true, eq-eqb}
 use Rattle.least.specs.Count.{pick}
 use Rattle.least.specs.Fold.{maxOf, only, anyOf}
 use Rattle.least.specs.Starts.{Order}
-use Rattle.least.proofs.Fold.{false-true, any-at, max-at}
+use Rattle.least.proofs.Fold.{false-true, any-at, any-found, max-at}
 use Rattle.rules.specs.Net.{Hop, Flow}
 use Rattle.rules.specs.Formula.{visits, prefix, before, lastOn, there, slowest, ownWeight}
 use Rattle.rules.specs.Meaning.{On}
@@ -32,6 +32,10 @@ visits-there k l n e = go (eqb (k .node) n)
 pub visits-member : {k : Hop} {l : List Hop} → List·Memᴰ k l → visits l (k .node) ≡ true
 unfolding visits
 visits-member {k} {l} m = any-at (λ q. eqb (q .node) (k .node)) m (eq-eqb (k .node) (k .node) refl)
+
+pub visits-hop : (l : List Hop) (h : ℕ) → visits l h ≡ true → (k : Hop) × List·Memᴰ k l × (k .node ≡ h)
+unfolding visits
+visits-hop l h e = let r = any-found (λ k. eqb (k .node) h) l e in (r .0, r .1, eqb-true (r .0 .node) h (r .2))
 
 -- what it visits is here or later
 visits-cases : (k : Hop) (l : List Hop) (n : ℕ) → visits (k ∷ l) n ≡ true → (k .node ≡ n) ⊎ (visits l n ≡ true)
