@@ -7,3 +7,5 @@ pub mod Settle
 pub mod Crossing
 pub mod Valid
 pub mod Rounds
+pub mod Judge
+pub mod Withdraw

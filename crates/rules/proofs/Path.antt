@@ -13,7 +13,7 @@ use Rattle.least.specs.Fold.{maxOf, only, anyOf}
 use Rattle.least.specs.Starts.{Order}
 use Rattle.least.proofs.Fold.{false-true, any-at, any-found, max-at}
 use Rattle.rules.specs.Net.{Hop, Flow}
-use Rattle.rules.specs.Formula.{visits, prefix, before, lastOn, there, slowest, ownWeight}
+use Rattle.rules.specs.Formula.{visits, prefix, before, lastNode, lastOn, there, slowest, ownWeight}
 use Rattle.rules.specs.Meaning.{On}
 
 -- a path visits its nodes
@@ -49,6 +49,12 @@ visits-cases k l n e = go (eqb (k .node) n) refl e
 never : {A : Type 0} (n : ℕ) → visits [] n ≡ true → A
 unfolding visits anyOf
 never n e = false-true e
+
+pub last-visited : (l : List Hop) → 0 < length l → visits l (lastNode l) ≡ true
+unfolding lastNode
+last-visited [] p = absurd (omega arith)
+last-visited (k ∷ []) p = visits-here k []
+last-visited (k ∷ (m ∷ ms)) p = visits-there k (m ∷ ms) (lastNode (m ∷ ms)) (last-visited (m ∷ ms) (omega arith))
 
 -- a prefix's nodes are the path's: h, or a node before h
 pub prefix-visits : (h n : ℕ) (l : List Hop) → visits (prefix h l) n ≡ true → visits l n ≡ true
