@@ -46,3 +46,13 @@ pub difference-add : (a b c d : ℕ) → (pos a -ℤ pos b) +ℤ (pos c -ℤ pos
 difference-add a b c d =
     pair-up (pos a) (negℤ (pos b)) (pos c) (negℤ (pos d))
     ∙ ap (λ k. pos (a + c) +ℤ k) (sym (negℤ-+ℤ (pos b) (pos d)))
+
+natural-alone : (c : ℕ) → pos c -ℤ pos 0 ≡ pos c
+natural-alone c = difference c 0 ∙ rw (le-ltb c 0 (omega arith)) (ap pos (omega arith))
+
+pub difference-plus : (a b c : ℕ) → (pos a -ℤ pos b) +ℤ pos c ≡ pos (a + c) -ℤ pos b
+difference-plus a b c =
+    ap (λ x. (pos a -ℤ pos b) +ℤ x) (sym (natural-alone c)) ∙ difference-add a b c 0 ∙ ap (λ x. pos (a + c) -ℤ pos x) (add-zero b)
+
+pub difference-less : (a b c : ℕ) → (pos a -ℤ pos b) -ℤ pos c ≡ pos a -ℤ pos (b + c)
+difference-less a b c = +ℤ-assoc (pos a) (negℤ (pos b)) (negℤ (pos c)) ∙ ap (λ x. pos a +ℤ x) (sym (negℤ-+ℤ (pos b) (pos c)))

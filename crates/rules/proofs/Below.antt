@@ -41,7 +41,7 @@ pub record Below (N N′ : Net) : Type 0 where
   pub beneath : (i : Flow) → Here N i → Beneath N N′ i (partner i)
 
 module _ (N N′ : Net) (i i′ : Flow) (b : Beneath N N′ i i′) where
-  on-partner : (h : ℕ) → On i h → On i′ h
+  pub on-partner : (h : ℕ) → On i h → On i′ h
   on-partner h o = subst (λ p. visits p h ≡ true) (b .path) o
 
   -- a busy length there is one here, no longer
@@ -121,7 +121,7 @@ next-below N N′ below ready ready′ S S′ hS =
         (response-is N i (ready i m) S h o) (response-is N′ i′ r′ S′ h (on-partner N N′ i i′ b h o))
 
 -- a part lies below the whole
-pub part-below : (N N′ : Net) → Part N N′ → ((i : Flow) → Here N i → Sound N i) → Below N N′
+unfoldable pub part-below : (N N′ : Net) → Part N N′ → ((i : Flow) → Here N i → Sound N i) → Below N N′
 part-below N N′ part sound = record {
   lmax = part .lmax;
   partner = λ i. i;

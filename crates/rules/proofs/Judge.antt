@@ -74,12 +74,12 @@ module _ (N : Net) where
       (other : Judgement) → (((i : Flow) → Here N i → p i ≡ false) → Next other) → Lowest N k AtFault Next (firstOr p (Refused k) (N .flows) other)
   lowest-first k AtFault Next p r fault clear other next = elim (first-or-none p (N .flows) r) [
     | inl f ↦ subst (Lowest N k AtFault Next) (sym (f .given (Refused k) other)) (applies (f .flow .number) (record {
-        flow = f .flow;
-        here = f .here;
-        number = refl;
-        fault = fault (f .flow) (f .here) (f .fails);
-        lowest = λ j m bad. f .lowest j m (at-fault j m bad);
-      }))
+      flow = f .flow;
+      here = f .here;
+      number = refl;
+      fault = fault (f .flow) (f .here) (f .fails);
+      lowest = λ j m bad. f .lowest j m (at-fault j m bad);
+    }))
     | inr n ↦ subst (Lowest N k AtFault Next) (sym (n .given (Refused k) other)) (passes other (λ i m bad. clear i m (n .each i m) bad) (next (n .each)))
   ]
     where

@@ -9,3 +9,5 @@ pub mod Valid
 pub mod Rounds
 pub mod Judge
 pub mod Withdraw
+pub mod Exact
+pub mod Whole

@@ -38,7 +38,7 @@ unfolding visits
 visits-hop l h e = let r = any-found (λ k. eqb (k .node) h) l e in (r .0, r .1, eqb-true (r .0 .node) h (r .2))
 
 -- what it visits is here or later
-visits-cases : (k : Hop) (l : List Hop) (n : ℕ) → visits (k ∷ l) n ≡ true → (k .node ≡ n) ⊎ (visits l n ≡ true)
+pub visits-cases : (k : Hop) (l : List Hop) (n : ℕ) → visits (k ∷ l) n ≡ true → (k .node ≡ n) ⊎ (visits l n ≡ true)
 unfolding visits anyOf
 visits-cases k l n e = go (eqb (k .node) n) refl e
   where

@@ -160,7 +160,7 @@ module _ (N : Net) (ready : (i : Flow) → Here N i → Ready N i) where
           response N i (arrivalsBy N (settle N)) h ≤ response N i (reached .S) h
       at-node q t =
           let none : sumOf now (N .flows) ≤ sumOf was (N .flows) =
-              omega (arith, total-is N (reached .S), total-is N (arrivalsBy N (settle N)), ap total (reached .replied)) in
+          omega (arith, total-is N (reached .S), total-is N (arrivalsBy N (settle N)), ap total (reached .replied)) in
           let flow = sum-tight was now (N .flows) (λ j n. sum-le _ _ (j .path) (one j n)) none i m in
           let node = sum-tight _ _ (i .path) (one i m) flow (q .0) (q .1) in
           subst (λ n. response N i (arrivalsBy N (settle N)) n ≤ response N i (reached .S) n) (q .2) node
