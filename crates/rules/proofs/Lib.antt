@@ -11,3 +11,4 @@ pub mod Judge
 pub mod Withdraw
 pub mod Exact
 pub mod Whole
+pub mod Shared
