@@ -1,26 +1,26 @@
 -- Two sets compared, however they differ: where each flow's sums are at most those of a partner at the same instant t, so are its
 -- starting times, its response bounds and the arrival bounds that follow. Assumes nothing.
 use mathlib.Core.Path.{_≡_, refl, ap, ap₂, subst}
-use mathlib.Core.Bool.{Bool, true, false}
+use mathlib.Core.Bool.{true}
 use mathlib.Core.List.{List, [], _∷_, List·Memᴰ, List·Memᴰ·head, List·Memᴰ·tail}
-use Prim.Native.Nat.{ℕ, _+_, _≤_, _<_, zero-le}
+use Prim.Native.Nat.{ℕ, _+_, _≤_}
 use native.Mathlib.Omega.{arith}
 use native.Mathlib.Nat.{le-refl, le-trans, le-of-eq}
 use lib.Dec.{eqb}
 use Rattle.least.specs.Count.{pick}
-use Rattle.least.specs.Fold.{maxOf, only}
+use Rattle.least.specs.Fold.{maxOf}
 use Rattle.least.specs.Vector.{_⊑_}
-use Rattle.least.specs.Starts.{Starts, Within}
+use Rattle.least.specs.Starts.{Within}
 use Rattle.least.proofs.Count.{pick-le}
 use Rattle.least.proofs.Fold.{max-at, max-under, mem-sublist}
 use Rattle.least.proofs.Instants.{greatest-le}
 use Rattle.least.proofs.Starts.{starts-within}
 use Rattle.rules.specs.Net.{Hop, Flow, Net}
-use Rattle.rules.specs.Formula.{horizon, visits, costAt, Key, Arrivals, sum, load, arriving, arrivals}
+use Rattle.rules.specs.Formula.{visits, costAt, Key, Arrivals, sum, load, arriving, arrivals}
 use Rattle.rules.specs.Meaning.{On, Here, IsStart, IsResponse}
 use Rattle.rules.specs.Judge.{busyLength, response}
 use Rattle.rules.proofs.Path.{order, visits-member}
-use Rattle.rules.proofs.Grow.{Part, part-refl, load-part, sum-grows}
+use Rattle.rules.proofs.Grow.{Part, load-part, sum-grows}
 use Rattle.rules.proofs.Busy.{Sound, Ready, load-zero, busy-lowest, busy-fixed, busy-positive}
 use Rattle.rules.proofs.Start.{meant-starts, response-is}
 

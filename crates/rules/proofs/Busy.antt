@@ -1,13 +1,12 @@
 -- The busy length is document 01's, or there is none. Assumes nothing.
-use mathlib.Core.Path.{_≡_, _∙_, sym, ap}
+use mathlib.Core.Path.{_≡_, ap}
 use mathlib.Core.Bool.{Bool, true, false}
 use mathlib.Core.List.{List·Memᴰ}
-use Prim.Native.Nat.{ℕ, suc, _+_, _*_, _≤_, _<_}
+use Prim.Native.Nat.{ℕ, _*_, _≤_, _<_}
 use native.Mathlib.Omega.{arith}
 use native.Mathlib.Nat.{le-refl, mul-le-mul, mul-le-mul-right}
 use Rattle.least.specs.Count.{pick, ceil}
-use Rattle.least.specs.Fold.{sumOf, only}
-use Rattle.least.specs.Fixed.{Rising, Smallest, Least, cap, floored}
+use Rattle.least.specs.Fixed.{Rising, Least, cap, floored}
 use Rattle.least.proofs.Count.{pick-le, ceil-le, ceil-mono, ceil-pos}
 use Rattle.least.proofs.Fold.{sum-le, sum-none}
 use Rattle.least.proofs.Fixed.{floored-rising, least-smallest, smallest-least, smallest-unique, cap-least, cap-in, cap-out, least-unique}

@@ -2,7 +2,6 @@
 use mathlib.Core.Path.{_≡_, refl, _∙_, sym, ap}
 use mathlib.Core.Bool.{Bool, true, false}
 use mathlib.Core.List.{List, [], _∷_, List·Memᴰ, List·Memᴰ·head, List·Memᴰ·tail, Sublistᴰ, Sublistᴰ·slnil, Sublistᴰ·cons, Sublistᴰ·cons-cons}
-use Prim.Native.Nat.{ℕ, _≤_}
 use lib.Dec.{leb}
 use borrow.Author.Tests.{leb-true, le-leb}
 use Rattle.least.specs.Count.{pick}
@@ -10,7 +9,7 @@ use Rattle.least.specs.Fold.{anyOf}
 use Rattle.least.proofs.Fold.{false-true, any-at, any-found, mem-sublist}
 use Rattle.rules.specs.Net.{Hop, Flow, Net}
 use Rattle.rules.specs.Formula.{visits, both}
-use Rattle.rules.specs.Meaning.{On, Here, Keeps, Permitted}
+use Rattle.rules.specs.Meaning.{Keeps, Permitted}
 use Rattle.rules.specs.Judge.{meetsAgain, returns, misplaced}
 
 pub both-left : (a b : Bool) → both a b ≡ true → a ≡ true
@@ -92,7 +91,7 @@ pub placed-permitted : (N : Net) (i : Flow) → misplaced N i ≡ false → Perm
 unfolding misplaced
 placed-permitted N i e j m p = go (returns (i .path) (j .path)) refl
   where
-    go : (b : Bool) → returns (i .path) (j .path) ≡ b → Keeps N i j
+    go : (b : Bool) → returns (i .path) (j .path) ≡ b → Keeps i j
     go true q =
         false-true (sym e ∙ any-at (λ j. both (leb (i .priority) (j .priority)) (returns (i .path) (j .path))) m (rw (le-leb (i .priority) (j .priority) p, q)))
     go false q = returns-none (i .path) (j .path) q

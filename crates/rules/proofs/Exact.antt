@@ -3,20 +3,20 @@ use mathlib.Core.Path.{_≡_, refl, _∙_, sym, ap, subst}
 use mathlib.Core.Bool.{Bool, true, false}
 use mathlib.Core.Logic.{_⊎_, inl, inr}
 use mathlib.Core.List.{List, [], _∷_, List·Memᴰ, List·Memᴰ·head, List·Memᴰ·tail}
-use Prim.Native.Nat.{ℕ, _+_, _-_, _*_, _≤_, _<_, max}
+use Prim.Native.Nat.{ℕ, _+_, _-_, _*_, _≤_, _<_}
 use native.Mathlib.Omega.{arith}
-use native.Mathlib.Nat.{le-refl, le-trans, mul-le-mul-right, mul-le-mul-left}
+use native.Mathlib.Nat.{le-refl, mul-le-mul-right, mul-le-mul-left}
 use lib.Dec.{eqb}
 use lib.ListN.{length}
-use borrow.Author.Tests.{eqb-true, eq-eqb}
-use Rattle.least.specs.Count.{pick, count}
-use Rattle.least.specs.Fold.{sumOf, maxOf, only}
+use borrow.Author.Tests.{eqb-true}
+use Rattle.least.specs.Count.{pick}
+use Rattle.least.specs.Fold.{sumOf}
 use Rattle.least.proofs.Count.{pick-le, count-some}
 use Rattle.least.proofs.Fold.{false-true, sum-le, max-le, only-le}
 use Rattle.rules.specs.Net.{Hop, Flow, Net}
 use Rattle.rules.specs.Formula.{visits, prefix, lastNode, least, there, costAt, Arrivals, slowest, ownWeight, slowestNode, others, term3, greatestCost, term4, term5, term6, sum, jitterOf}
-use Rattle.rules.specs.Meaning.{On, Here, IsBound}
-use Rattle.rules.specs.Valid.{Distinct, InRange, Valid}
+use Rattle.rules.specs.Meaning.{On, IsBound}
+use Rattle.rules.specs.Valid.{Distinct, InRange}
 use Rattle.rules.proofs.Path.{visits-here, visits-there, visits-cases, visits-member, last-visited, slowest-at}
 
 -- a node of the path is on its prefix
@@ -39,16 +39,16 @@ cost-slowest h l v =
     (λ k m. only-le (λ k. eqb (k .node) h) (λ k. visits (prefix h l) (k .node)) (λ k. k .cost) (λ k. k .cost) k
     (λ e. subst (λ n. visits (prefix h l) n ≡ true) (sym (eqb-true (k .node) h e)) (prefix-self h l v)) (le-refl _))
 
-own-first : (N : Net) (i : Flow) (P : List Hop) (u : ℕ) → 0 < i .period → ownWeight P i ≤ term3 N i P u
+own-first : (i : Flow) (P : List Hop) (u : ℕ) → 0 < i .period → ownWeight P i ≤ term3 i P u
 unfolding term3
-own-first N i P u p = omega (arith, mul-le-mul-right (ownWeight P i) (count-some u 0 (i .period) p (omega arith)))
+own-first i P u p = omega (arith, mul-le-mul-right (ownWeight P i) (count-some u 0 (i .period) p (omega arith)))
 
 -- the sum of terms 1 to 6 is never below 0
 pub sum-exact : (N : Net) (i : Flow) → 0 < i .period → (S : Arrivals) (u h : ℕ) → On i h → (x : ℕ → ℕ) (w : ℕ) →
     let P = prefix h (i .path) in
-    sum N i S u h x w + costAt (i .path) h ≡ others N i S P h u x w + term3 N i P u + term4 N i P + term5 N i P + term6 N i P
+    sum N i S u h x w + costAt (i .path) h ≡ others N i S P h u x w + term3 i P u + term4 N i P + term5 N i P + term6 N P
 unfolding sum ownWeight
-sum-exact N i p S u h o x w = omega (arith, cost-slowest h (i .path) o, own-first N i (prefix h (i .path)) u p)
+sum-exact N i p S u h o x w = omega (arith, cost-slowest h (i .path) o, own-first i (prefix h (i .path)) u p)
 
 -- the last node's prefix is the path
 prefix-last : (l : List Hop) → Distinct l → prefix (lastNode l) l ≡ l
@@ -125,10 +125,10 @@ jitter-exact N i links r S b p =
       p .greatest .above 0,
       p .start 0 h o .fixed,
       sum-exact N i (r .period) S 0 h o (p .W 0) (p .W 0 h),
-      own-first N i (prefix h (i .path)) 0 (r .period),
+      own-first i (prefix h (i .path)) 0 (r .period),
       ap (λ P. ownWeight P i) whole,
       ap (term4 N i) whole,
-      ap (term6 N i) whole,
+      ap (term6 N) whole,
       costs-covered N i (r .distinct),
       mul-le-mul-left (length (i .path) - 1) links,
     )

@@ -1,22 +1,21 @@
 -- How the sum grows: with the arrival bounds, with the instant, with the starting times, and with the set. Assumes nothing.
-use mathlib.Core.Path.{_≡_, refl, _∙_, sym, ap}
+use mathlib.Core.Path.{_≡_, refl, ap}
 use mathlib.Core.Bool.{Bool, true, false}
-use mathlib.Core.Logic.{_⊎_, inl, inr}
-use mathlib.Core.List.{List, [], _∷_, map, List·Memᴰ, List·Memᴰ·head, List·Memᴰ·tail, Sublistᴰ, Sublistᴰ·slnil, Sublistᴰ·cons, Sublistᴰ·cons-cons}
+use mathlib.Core.Logic.{inl, inr}
+use mathlib.Core.List.{List, [], _∷_, map, List·Memᴰ, List·Memᴰ·head, List·Memᴰ·tail, Sublistᴰ, Sublistᴰ·slnil, Sublistᴰ·cons-cons}
 use Prim.Native.Nat.{ℕ, _+_, _-_, _*_, _≤_, _<_}
 use native.Mathlib.Omega.{arith}
-use native.Mathlib.Nat.{le-refl, le-trans, le-of-eq, mul-le-mul-right, mul-le-mul-left}
+use native.Mathlib.Nat.{le-refl, le-trans, mul-le-mul-right, mul-le-mul-left}
 use lib.Dec.{eqb}
 use lib.ListN.{length}
 use borrow.Author.Tests.{eq-eqb}
 use Rattle.least.specs.Count.{pick, count, ceil}
-use Rattle.least.specs.Fold.{sumOf, maxOf, minOf, only, keep}
+use Rattle.least.specs.Fold.{sumOf, only, keep}
 use Rattle.least.specs.Vector.{_⊑_}
-use Rattle.least.proofs.Count.{pick-le, count-grows, ceil-mono}
+use Rattle.least.proofs.Count.{pick-le, count-grows}
 use Rattle.least.proofs.Fold.{sum-le, sum-add, sum-sublist, max-le, max-sublist, min-sublist, only-le, sublist-map}
 use Rattle.rules.specs.Net.{Hop, Flow, Net}
 use Rattle.rules.specs.Formula.{Role, Own, Higher, Equal, Lower, role, higherOrEqual, visits, prefix, before, firstOn, lastOn, costAt, Crossing, crossings, smin, Arrivals, along, leastCost, M, slowest, weight, ownWeight, slowestNode, plusA, lessA, term1, term2, packets, others, term3, greatestCost, term4, lowerCost, term5, term6, sum, load}
-use Rattle.rules.specs.Meaning.{On}
 use Rattle.rules.proofs.Path.{prefix-visits, last-cases}
 
 -- A part of a set: some of its flows, and links at least as slow at best and at most as slow at worst.
@@ -96,7 +95,7 @@ module _ (N N′ : Net) (i : Flow) (part : Part N N′) (periods : (j : Flow) �
   unfolding term5
   term5-part P = sum-le _ _ P (λ k m. lower-part k)
 
-  term6-part : (P : List Hop) → term6 N i P ≤ term6 N′ i P
+  term6-part : (P : List Hop) → term6 N P ≤ term6 N′ P
   unfolding term6
   term6-part P = mul-le-mul-left (length P - 1) (part .lmax)
 
@@ -124,11 +123,11 @@ module _ (N N′ : Net) (i : Flow) (part : Part N N′) (periods : (j : Flow) �
         go true v = hw
         go false v = hx (lastOn h P (j .part)) v
 
-    plus-le : (j : Crossing) → plusA N i S P h j ≤ plusA N′ i S′ P h j
+    plus-le : (j : Crossing) → plusA S P j ≤ plusA S′ P j
     unfolding plusA
     plus-le j = omega (arith, hS (j .flow .number, firstOn P (j .part)))
 
-    less-le : (j : Crossing) → lessA N′ i S′ P h j ≤ lessA N i S P h j
+    less-le : (j : Crossing) → lessA N′ i P j ≤ lessA N i P j
     unfolding lessA
     less-le j = M-part (firstOn P (j .part))
 
@@ -158,7 +157,7 @@ module _ (N N′ : Net) (i : Flow) (part : Part N N′) (periods : (j : Flow) �
           sum-sublist (λ j. packets N′ i S′ P h u′ x′ w′ j (role i (j .flow)) * weight P j) crossings-part,
         ))
 
-    term3-grow : 0 < i .period → term3 N i P u ≤ term3 N′ i P u′ + ceil c (i .period) * ownWeight (i .path) i
+    term3-grow : 0 < i .period → term3 i P u ≤ term3 i P u′ + ceil c (i .period) * ownWeight (i .path) i
     unfolding term3 ownWeight
     term3-grow p = scaled _ _ _ (slowest-prefix h (i .path) (i .path)) (count-grows u 0 u′ 0 c (i .period) p (omega arith))
 

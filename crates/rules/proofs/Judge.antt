@@ -3,16 +3,15 @@ use mathlib.Core.Path.{_≡_, refl, _∙_, sym, ap, ap₂, subst}
 use mathlib.Core.Bool.{Bool, true, false}
 use mathlib.Core.Logic.{_⊎_, inl, inr}
 use mathlib.Core.List.{List, [], _∷_, map, List·Memᴰ, List·Memᴰ·head, List·Memᴰ·tail, List·Memᴰ·not-nil}
-use Prim.Native.Nat.{ℕ, _≤_, _<_}
+use Prim.Native.Nat.{ℕ, _≤_}
 use native.Mathlib.Omega.{arith}
 use native.Mathlib.Nat.{le-of-eq}
 use lib.Dec.{ltb}
 use borrow.Author.Tests.{ltb-true, ltb-false}
-use Rattle.least.specs.Vector.{_⊑_}
 use Rattle.least.proofs.Fold.{false-true}
 use Rattle.rules.specs.Net.{Flow, Net, Figures, Judgement, Refused, Given}
 use Rattle.rules.specs.Formula.{horizon, lastNode, Arrivals, jitterOf}
-use Rattle.rules.specs.Meaning.{On, Here, IsBusy, LeastSettled, IsFigures, Permitted, Named, Lowest, applies, passes, Settles, unsettled, settled, Judged}
+use Rattle.rules.specs.Meaning.{On, Here, IsFigures, Lowest, applies, passes, Settles, unsettled, settled, Judged}
 use Rattle.rules.specs.Valid.{RisingNumbers, Valid}
 use Rattle.rules.specs.Judge.{busyLength, arrivalsBy, pastHorizon, settle, figures, misplaced, firstOr, judged}
 use Rattle.rules.proofs.Path.{last-visited}

@@ -1,19 +1,19 @@
 -- A path and its prefixes: what stands before what. Assumes nothing.
-use mathlib.Core.Path.{_≡_, refl, _∙_, sym, ap}
+use mathlib.Core.Path.{_≡_, refl, _∙_, sym}
 use mathlib.Core.Bool.{Bool, true, false}
 use mathlib.Core.Logic.{_⊎_, inl, inr}
-use mathlib.Core.List.{List, [], _∷_, List·Memᴰ, List·Memᴰ·head, List·Memᴰ·tail}
+use mathlib.Core.List.{List, [], _∷_, List·Memᴰ}
 use Prim.Native.Nat.{ℕ, _≤_, _<_}
 use native.Mathlib.Omega.{arith}
 use lib.Dec.{eqb}
 use lib.ListN.{length}
 use borrow.Author.Tests.{eqb-true, eq-eqb}
 use Rattle.least.specs.Count.{pick}
-use Rattle.least.specs.Fold.{maxOf, only, anyOf}
+use Rattle.least.specs.Fold.{only, anyOf}
 use Rattle.least.specs.Starts.{Order}
 use Rattle.least.proofs.Fold.{false-true, any-at, any-found, max-at}
 use Rattle.rules.specs.Net.{Hop, Flow}
-use Rattle.rules.specs.Formula.{visits, prefix, before, lastNode, lastOn, there, slowest, ownWeight}
+use Rattle.rules.specs.Formula.{visits, prefix, before, lastNode, lastOn, there, slowest}
 use Rattle.rules.specs.Meaning.{On}
 
 -- a path visits its nodes

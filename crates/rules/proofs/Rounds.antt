@@ -2,21 +2,21 @@
 use mathlib.Core.Path.{_≡_, refl, _∙_, sym, ap, subst}
 use mathlib.Core.Bool.{Bool, true, false}
 use mathlib.Core.Logic.{_⊎_, inl, inr}
-use mathlib.Core.List.{List, [], _∷_, map, List·Memᴰ, List·Memᴰ·head, List·Memᴰ·tail}
-use Prim.Native.Nat.{ℕ, suc, _+_, _*_, _≤_, _<_}
+use mathlib.Core.List.{List, [], _∷_, map, List·Memᴰ}
+use Prim.Native.Nat.{ℕ, _+_, _*_, _≤_, _<_}
 use native.Mathlib.Omega.{arith}
 use native.Mathlib.Nat.{le-refl, le-trans, le-of-eq}
 use lib.Dec.{leb, ltb, eqb}
 use lib.ListN.{length}
-use borrow.Author.Tests.{leb-true, leb-false, ltb-true, ltb-false, lt-ltb}
+use borrow.Author.Tests.{leb-true, leb-false, ltb-true, lt-ltb}
 use Rattle.least.specs.Count.{pick}
-use Rattle.least.specs.Fold.{sumOf, maxOf, only, anyOf}
-use Rattle.least.specs.Vector.{_⊑_, Underᵛ, Leastᵛ, settleBy}
+use Rattle.least.specs.Fold.{sumOf, maxOf, anyOf}
+use Rattle.least.specs.Vector.{_⊑_, Underᵛ}
 use Rattle.least.proofs.Count.{le-or-lt}
 use Rattle.least.proofs.Fold.{false-true, sum-le, sum-ext, sum-map, sum-bound, sum-tight, max-map, max-ext, any-at, any-found, any-map, any-ext}
 use Rattle.least.proofs.Vector.{underᵛ-zero, underᵛ-step, underᵛ-ext, underᵛ-done, settle-keeps, settle-rests}
 use Rattle.rules.specs.Net.{Hop, Flow, Net}
-use Rattle.rules.specs.Formula.{horizon, visits, Key, Arrivals, arriving, arrivals}
+use Rattle.rules.specs.Formula.{horizon, Key, Arrivals, arriving, arrivals}
 use Rattle.rules.specs.Meaning.{On, Here, Settled, LeastSettled}
 use Rattle.rules.specs.Judge.{response, Reply, arrivingBy, arrivalsBy, replies, round, pastHorizon, total, still, rounds, settle}
 use Rattle.rules.proofs.Path.{visits-member, visits-hop}

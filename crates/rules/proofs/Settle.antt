@@ -11,15 +11,15 @@ use borrow.Author.Tests.{eqb-true}
 use Rattle.least.specs.Count.{pick}
 use Rattle.least.specs.Fold.{maxOf, only}
 use Rattle.least.specs.Vector.{_⊑_, Risingᵛ, Leastᵛ, Underᵛ}
-use Rattle.least.proofs.Vector.{least-of, least-exists, leastᵛ-unique}
+use Rattle.least.proofs.Vector.{least-of, least-exists}
 use Rattle.rules.specs.Net.{Hop, Flow, Net}
 use Rattle.rules.specs.Formula.{horizon, Key, Arrivals, arriving, arrivals}
-use Rattle.rules.specs.Meaning.{On, Here, IsResponse, Settled, LeastSettled}
+use Rattle.rules.specs.Meaning.{On, Here, Settled, LeastSettled}
 use Rattle.rules.specs.Judge.{response}
-use Rattle.rules.proofs.Grow.{Part, part-refl}
+use Rattle.rules.proofs.Grow.{part-refl}
 use Rattle.rules.proofs.Busy.{Ready}
 use Rattle.rules.proofs.Start.{response-is, response-found, response-rises}
-use Rattle.rules.proofs.Below.{Below, arrivals-le, next, next-below, part-below}
+use Rattle.rules.proofs.Below.{arrivals-le, next, next-below, part-below}
 
 -- the places that count: elsewhere an arrival bound is 0
 hopKeys : ℕ → List Hop → List Key

@@ -1,22 +1,20 @@
 -- Starting times and response bounds: there, unique, rising; lemma 3; the maximum over every instant. Assumes nothing.
-use mathlib.Core.Path.{_≡_, refl, sym, ap}
-use mathlib.Core.List.{List·Memᴰ}
+use mathlib.Core.Path.{_≡_, refl, ap}
 use Prim.Native.Nat.{ℕ, _+_, _≤_, _<_}
 use native.Mathlib.Omega.{arith}
 use native.Mathlib.Nat.{le-refl}
 use lib.ListN.{length}
 use Rattle.least.specs.Vector.{_⊑_}
-use Rattle.least.specs.Instants.{Greatest, bestTo}
 use Rattle.least.specs.Starts.{Starts, Within}
 use Rattle.least.proofs.Fixed.{least-from-zero, from-zero-least}
 use Rattle.least.proofs.Instants.{greatest-unique, greatest-ext, greatest-le, greatest-found}
 use Rattle.least.proofs.Starts.{starts-within, starts-unique, starts-found, sum-rises}
 use Rattle.rules.specs.Net.{Flow, Net}
-use Rattle.rules.specs.Formula.{horizon, visits, before, costAt, Arrivals, sum, load}
+use Rattle.rules.specs.Formula.{costAt, Arrivals, sum}
 use Rattle.rules.specs.Meaning.{On, IsStart, IsResponse}
 use Rattle.rules.specs.Judge.{busyLength, start, response}
 use Rattle.rules.proofs.Path.{order, rank-below}
-use Rattle.rules.proofs.Grow.{Part, part-refl, othersLoad, load-is, sum-grows, sum-grows-slower}
+use Rattle.rules.proofs.Grow.{part-refl, load-is, sum-grows, sum-grows-slower}
 use Rattle.rules.proofs.Busy.{Sound, Ready, load-zero, own-load, busy-fixed, busy-positive}
 
 module _ (N : Net) (i : Flow) (ok : Sound N i) where

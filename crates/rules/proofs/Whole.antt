@@ -45,7 +45,7 @@ module _ (N : Net) (i : Flow) (S : Arrivals) (P : List Hop) (h : ℕ) where
 
   pub term2-whole : (u : ℕ) (j : Crossing) →
       let g = firstOn (j .part) P in
-      countℤ (((t i u +ℤ pos (S (i .number, g))) -ℤ pos (smin N (j .flow) g)) +ℤ A N i S P j) (j .flow .period) ≡ term2 N i S P h u j
+      countℤ (((t i u +ℤ pos (S (i .number, g))) -ℤ pos (smin N (j .flow) g)) +ℤ A N i S P j) (j .flow .period) ≡ term2 N i S P u j
   unfolding term2 plusA lessA
   term2-whole u j =
       let g = firstOn (j .part) P in

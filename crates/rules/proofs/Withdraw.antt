@@ -1,5 +1,5 @@
 -- A set below another keeps busy lengths and settled arrival bounds, none larger; a part of a set lies below it. Assumes nothing.
-use mathlib.Core.Path.{_≡_, refl, sym, subst}
+use mathlib.Core.Path.{_≡_, sym, subst}
 use mathlib.Core.List.{Sublistᴰ}
 use Prim.Native.Nat.{ℕ, _≤_}
 use native.Mathlib.Omega.{arith}
@@ -12,7 +12,6 @@ use Rattle.rules.specs.Meaning.{On, Here, IsBusy, IsBound, IsResponse, S
 use Rattle.rules.specs.Valid.{Valid}
 use Rattle.rules.specs.Judge.{busyLength, response}
 use Rattle.rules.proofs.Path.{last-visited}
-use Rattle.rules.proofs.Grow.{Part}
 use Rattle.rules.proofs.Busy.{Ready, busy-is, busy-found}
 use Rattle.rules.proofs.Start.{response-is}
 use Rattle.rules.proofs.Below.{Below, next, next-below, ready-below, busy-below, response-below, on-partner, part-below}

@@ -133,41 +133,42 @@ earliest c (k ∷ ks) = pick (eqb (k .cost) c) (k .node) (earliest c ks)
 unfoldable pub slowestNode : List Hop → Flow → ℕ
 slowestNode P i = earliest (slowest P (i .path)) P
 
+-- A(i,j) = S(j,f) − M(i,f) + J of j, f the first node of i on j's path: what it adds, and what it takes off
+unfoldable pub plusA : Arrivals → List Hop → Crossing → ℕ
+plusA S P j = S (j .flow .number, firstOn P (j .part)) + j .flow .jitter
+
+unfoldable pub lessA : Net → Flow → List Hop → Crossing → ℕ
+lessA N i P j = M N i (firstOn P (j .part))
+
+-- The sum of which W(i,h,t) is the least solution: P is the prefix at h, x gives W at the nodes before h, w is W at h.
 module _ (N : Net) (i : Flow) where
-  module _ (S : Arrivals) (P : List Hop) (h : ℕ) where
-    -- A(i,j) = S(j,f) − M(i,f) + J of j, f the first node of i on j's path: what it adds, and what it takes off
-    unfoldable pub plusA : Crossing → ℕ
-    plusA j = S (j .flow .number, firstOn P (j .part)) + j .flow .jitter
+  -- 1. packets of a higher flow: count(V − Smin(j,l) + A, T), l the last node of i on j's path, V = w if l = h
+  unfoldable pub term1 : Arrivals → List Hop → ℕ → (ℕ → ℕ) → ℕ → Crossing → ℕ
+  term1 S P h x w j =
+      let l = lastOn h P (j .part) in
+      count (pick (eqb l h) w (x l) + plusA S P j) (smin N (j .flow) l + lessA N i P j) (j .flow .period)
 
-    unfoldable pub lessA : Crossing → ℕ
-    lessA j = M N i (firstOn P (j .part))
+  -- 2. packets of an equal flow: count(t + S(i,g) − Smin(j,g) + A, T), g the first node that j visits
+  unfoldable pub term2 : Arrivals → List Hop → ℕ → Crossing → ℕ
+  term2 S P u j =
+      let g = firstOn (j .part) P in
+      count (u + S (i .number, g) + plusA S P j) (i .jitter + smin N (j .flow) g + lessA N i P j) (j .flow .period)
 
-    -- 1. packets of a higher flow: count(V − Smin(j,l) + A, T), l the last node of i on j's path; x gives W at the nodes before h
-    unfoldable pub term1 : (ℕ → ℕ) → ℕ → Crossing → ℕ
-    term1 x w j =
-        let l = lastOn h P (j .part) in
-        count (pick (eqb l h) w (x l) + plusA j) (smin N (j .flow) l + lessA j) (j .flow .period)
+  unfoldable pub packets : Arrivals → List Hop → ℕ → ℕ → (ℕ → ℕ) → ℕ → Crossing → Role → ℕ
+  packets S P h u x w j Own = 0
+  packets S P h u x w j Higher = term1 S P h x w j
+  packets S P h u x w j Equal = term2 S P u j
+  packets S P h u x w j Lower = 0
 
-    -- 2. packets of an equal flow: count(t + S(i,g) − Smin(j,g) + A, T), g the first node that j visits
-    unfoldable pub term2 : ℕ → Crossing → ℕ
-    term2 u j =
-        let g = firstOn (j .part) P in
-        count (u + S (i .number, g) + plusA j) (i .jitter + smin N (j .flow) g + lessA j) (j .flow .period)
+  -- 1 and 2: packets × slowest cost, over the crossing flows
+  unfoldable pub others : Arrivals → List Hop → ℕ → ℕ → (ℕ → ℕ) → ℕ → ℕ
+  others S P h u x w = sumOf (λ j. packets S P h u x w j (role i (j .flow)) * weight P j) (crossings N i)
 
-    unfoldable pub packets : ℕ → (ℕ → ℕ) → ℕ → Crossing → Role → ℕ
-    packets u x w j Own = 0
-    packets u x w j Higher = term1 x w j
-    packets u x w j Equal = term2 u j
-    packets u x w j Lower = 0
+-- 3. i itself
+unfoldable pub term3 : Flow → List Hop → ℕ → ℕ
+term3 i P u = count u 0 (i .period) * ownWeight P i
 
-    -- 1 and 2: packets × slowest cost, over the crossing flows
-    unfoldable pub others : ℕ → (ℕ → ℕ) → ℕ → ℕ
-    others u x w = sumOf (λ j. packets u x w j (role i (j .flow)) * weight P j) (crossings N i)
-
-  -- 3. i itself
-  unfoldable pub term3 : List Hop → ℕ → ℕ
-  term3 P u = count u 0 (i .period) * ownWeight P i
-
+module _ (N : Net) (i : Flow) where
   -- 4. the greatest cost at each node but i's slowest
   unfoldable pub greatestCost : List Hop → Hop → ℕ
   greatestCost P k = max (k .cost) (maxOf (only (along i P) (λ j. costAt (j .part) (k .node))) (crossings N i))
@@ -182,21 +183,20 @@ module _ (N : Net) (i : Flow) where
   unfoldable pub term5 : List Hop → ℕ
   term5 P = sumOf (λ k. lowerCost k - 1) P
 
-  -- 6. without the cost that is taken off
-  unfoldable pub term6 : List Hop → ℕ
-  term6 P = (length P - 1) * N .lmax
+-- 6. without the cost that is taken off
+unfoldable pub term6 : Net → List Hop → ℕ
+term6 N P = (length P - 1) * N .lmax
 
-  -- the sum at h, for the instant u, with x for W at the nodes before h and w for W at h
-  unfoldable pub sum : Arrivals → ℕ → ℕ → (ℕ → ℕ) → ℕ → ℕ
-  sum S u h x w =
-      let P = prefix h (i .path) in
-      others S P h u x w + term3 P u + term4 P + term5 P + term6 P - costAt (i .path) h
+unfoldable pub sum : Net → Flow → Arrivals → ℕ → ℕ → (ℕ → ℕ) → ℕ → ℕ
+sum N i S u h x w =
+    let P = prefix h (i .path) in
+    others N i S P h u x w + term3 i P u + term4 N i P + term5 N i P + term6 N P - costAt (i .path) h
 
-  -- the right side of the busy length's equation
-  unfoldable pub load : ℕ → ℕ
-  load b =
-      ceil b (i .period) * ownWeight (i .path) i
-      + sumOf (only (λ j. higherOrEqual (role i (j .flow))) (λ j. ceil b (j .flow .period) * weight (i .path) j)) (crossings N i)
+-- the sum of which the busy length is the least solution
+unfoldable pub load : Net → Flow → ℕ → ℕ
+load N i b =
+    ceil b (i .period) * ownWeight (i .path) i
+    + sumOf (only (λ j. higherOrEqual (role i (j .flow))) (λ j. ceil b (j .flow .period) * weight (i .path) j)) (crossings N i)
 
 -- S(j,h) along a path from a at its first node: elsewhere the response bound R at the node before, plus Lmax
 unfoldable pub arriving : ℕ → (ℕ → ℕ) → ℕ → List Hop → ℕ → ℕ

@@ -9,9 +9,9 @@ use Rattle.least.specs.Fold.{sumOf, maxOf, only, anyOf}
 use Rattle.least.specs.Fixed.{climb, cap, floored}
 use Rattle.least.specs.Vector.{settleBy}
 use Rattle.least.specs.Instants.{bestTo}
-use Rattle.least.specs.Starts.{Sums, startTo}
+use Rattle.least.specs.Starts.{startTo}
 use Rattle.rules.specs.Net.{Hop, Flow, Net, Figures, Judgement, Refused, Given}
-use Rattle.rules.specs.Formula.{horizon, visits, lastNode, both, costAt, Key, Arrivals, sum, load, jitterOf}
+use Rattle.rules.specs.Formula.{horizon, visits, lastNode, both, costAt, Arrivals, sum, load, jitterOf}
 
 -- the busy length, or H + 1 if there is none
 unfoldable pub busyLength : Net → Flow → ℕ

@@ -1,7 +1,7 @@
 -- What document 01 says of the formula: the statements by which its figures and refusals are meant.
 use mathlib.Core.Path.{_≡_}
 use mathlib.Core.Bool.{true}
-use mathlib.Core.List.{List, [], _∷_, map, List·Memᴰ, Sublistᴰ}
+use mathlib.Core.List.{[], _∷_, map, List·Memᴰ, Sublistᴰ}
 use Prim.Native.Nat.{ℕ, _+_, _≤_, _<_}
 use Rattle.least.specs.Fixed.{Smallest}
 use Rattle.least.specs.Instants.{Greatest}
@@ -10,6 +10,10 @@ use Rattle.rules.specs.Formula.{horizon, visits, lastNode, costAt, Arriv
 
 abbrev pub On : Flow → ℕ → Type 0
 On i h = visits (i .path) h ≡ true
+
+-- "every node of j's path between two of its nodes on i's path is itself on i's path"
+abbrev pub Keeps : Flow → Flow → Type 0
+Keeps i j = (k m n : Hop) → Sublistᴰ (k ∷ m ∷ n ∷ []) (j .path) → On i (k .node) → On i (n .node) → On i (m .node)
 
 module _ (N : Net) where
   abbrev pub Here : Flow → Type 0
@@ -51,11 +55,7 @@ module _ (N : Net) where
     pub jitter : f .jitter ≡ jitterOf N i (f .bound)
     pub busy : IsBusy i (f .busy)
 
-  -- "every node of j's path between two of its nodes on i's path is itself on i's path"
-  abbrev pub Keeps : Flow → Flow → Type 0
-  Keeps i j = (k m n : Hop) → Sublistᴰ (k ∷ m ∷ n ∷ []) (j .path) → On i (k .node) → On i (n .node) → On i (m .node)
-
-  -- "for flows i and j with j's priority at least i's"
+  -- Assumption 1: "for flows i and j with j's priority at least i's"
   abbrev pub Permitted : Flow → Type 0
   Permitted i = (j : Flow) → Here j → i .priority ≤ j .priority → Keeps i j
 
