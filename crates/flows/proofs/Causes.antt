@@ -7,7 +7,7 @@ use borrow.Author.Tests.{eq-eqb, ne-eqb, lt-ltb, le-ltb, le-leb, lt-leb, not-tru
 use Rattle.flows.specs.declared.Flow.{Flow}
 use Rattle.flows.specs.declared.Cause.{Cause}
 use Rattle.flows.specs.declared.Cause.the-variants.{Accepted, Delays, NumberZero, OutOfRange, NodeTwice}
-use Rattle.flows.specs.Refusals.{numberOf, flowNamed, refusalOf}
+use Rattle.flows.specs.Refusals.{numberOf, acceptedBy, flowNamed, refusalOf}
 use Rattle.flows.specs.Lists.{mostNodes, pathOf, unusedOf}
 use Rattle.flows.specs.Tests.{mostDelay, mostCost, delayCause, every, hopFits, hopZero, rangesFit, distinct, nodesOf, flowCause}
 
@@ -95,3 +95,6 @@ module _ (f : Flow) where
 pub refusal-made : (cause : Cause) (place n f : ℕ) → n ≡ numberOf cause → f ≡ flowNamed cause →
     record { number = n; flow = f; place = place } ≡ refusalOf cause place
 refusal-made cause place n f e g = rw (e, g)
+
+pub accepted-is : (cause : Cause) (n : ℕ) → n ≡ numberOf cause → eqb n 0 ≡ acceptedBy cause
+accepted-is cause n e = rw e

@@ -1,5 +1,7 @@
 -- Refusal numbers: the number and the flow that document 01 gives to each cause.
 use Prim.Native.Nat.{ℕ}
+use mathlib.Core.Bool.{Bool, cond}
+use lib.Dec.{eqb}
 use Rattle.flows.specs.declared.Refusal.{Refusal}
 use Rattle.flows.specs.declared.Cause.{Cause}
 use Rattle.flows.specs.declared.Cause.the-variants.{Accepted, Delays, NumberZero, OutOfRange, NodeTwice, Present, Full, Crossing, NoBusyLength, Unsettled, PastDeadline, Absent, Malformed, ShortBuffer}
@@ -20,6 +22,13 @@ numberOf (PastDeadline flow) = 10
 numberOf Absent = 11
 numberOf Malformed = 12
 numberOf ShortBuffer = 13
+
+abbrev pub acceptedBy : Cause → Bool
+acceptedBy cause = eqb (numberOf cause) 0
+
+-- the first of two causes that applies
+abbrev pub firstCause : Cause → Cause → Cause
+firstCause cause next = cond (acceptedBy cause) next cause
 
 abbrev pub flowNamed : Cause → ℕ
 flowNamed Accepted = 0

@@ -3,7 +3,7 @@ ghost use mathlib.Core.Path.{_≡_};
 ghost use Prim.Native.Nat.{_+_, _<_, _≤_};
 ghost use lib.ListN.{length, drop};
 ghost use Rattle.rules.specs.Net.{Hop};
-ghost use Rattle.flows.specs.Refusals.{numberOf, flowNamed, refusalOf};
+ghost use Rattle.flows.specs.Refusals.{numberOf, acceptedBy, flowNamed, refusalOf};
 ghost use Rattle.flows.specs.Lists.{mostNodes, noFlow, pathOf, unusedOf};
 ghost use Rattle.flows.specs.Tests.{delayCause, every, hopFits, hopZero, rangesFit, distinct, nodesOf, lastAt, flowCause};
 
@@ -115,6 +115,12 @@ pub fn refusal_number(cause: Cause) -> u8
         Cause::Malformed => 12,
         Cause::ShortBuffer => 13,
     }
+}
+
+pub fn accepted(cause: Cause) -> bool
+    ensures { λ r. ⌜ r ≡ acceptedBy cause ⌝ }
+{
+    refusal_number(cause) == 0
 }
 
 pub fn flow_named(cause: Cause) -> u8
