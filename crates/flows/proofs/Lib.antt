@@ -1,0 +1,5 @@
+pub mod Each
+pub mod Arrays
+pub mod Causes
+pub mod Loops
+pub mod Passed

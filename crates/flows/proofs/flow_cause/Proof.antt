@@ -1,0 +1,27 @@
+use borrow.Author.Needs.{needs}
+use Rattle.flows.proofs.Causes.{cause-number, cause-range, cause-twice, cause-accepted}
+use Rattle.flows.proofs.flow_cause.Statement.{statement}
+use Rattle.flows.proofs.flow_cause.Tie as tie
+
+returns : tie.Need-returns
+returns c = search cause-number
+
+ranges-fit-requires : tie.Need-ranges-fit-requires
+ranges-fit-requires c κs = search needs
+
+returns-2 : tie.Need-returns-2
+returns-2 c = search cause-range
+
+nodes-differ-requires : tie.Need-nodes-differ-requires
+nodes-differ-requires c κs = search needs
+
+returns-3 : tie.Need-returns-3
+returns-3 c = search cause-twice
+
+returns-4 : tie.Need-returns-4
+returns-4 c = search cause-accepted
+
+pub flow-cause-spec : {M : Type 1} → statement M
+flow-cause-spec =
+    tie.close
+    (tie.spec returns ranges-fit-requires returns-2 nodes-differ-requires returns-3 returns-4)

@@ -1,0 +1,23 @@
+-- The kinds of a plan's records, and the length that each fixes for its body.
+use Prim.Native.Nat.{ℕ}
+
+-- 01: Lmin, Lmax
+abbrev pub linksKind : ℕ
+linksKind = 1
+
+abbrev pub linksBody : ℕ
+linksBody = 4
+
+-- 02: number, priority, T, J, D, path length, eight nodes, eight costs
+abbrev pub flowKind : ℕ
+flowKind = 2
+
+abbrev pub flowBody : ℕ
+flowBody = 33
+
+abbrev pub flowNodes : ℕ
+flowNodes = 8
+
+-- 7F: end, no body
+abbrev pub endKind : ℕ
+endKind = 127

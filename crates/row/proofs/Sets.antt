@@ -1,0 +1,176 @@
+-- Rows in rising number: kept by insertion and removal, determined by their flows, and undone.
+use Prim.Native.Nat.{ℕ, _≤_, _<_}
+use mathlib.Core.Path.{_≡_, refl, sym, ap, _∙_}
+use mathlib.Core.Bool.{Bool, true, false, cond}
+use mathlib.Core.List.{List, [], _∷_, List·Memᴰ, List·Memᴰ·head, List·Memᴰ·tail, List·Memᴰ·not-nil, List·Memᴰ·cases-cons}
+use mathlib.Core.Logic.{_⊎_, inl, inr, ⊎-elim}
+use native.Mathlib.Omega.{arith}
+use native.Mathlib.Nat.{eq-or-lt-of-le}
+use lib.ListN.{length}
+use lib.Dec.{eqb, ltb}
+use borrow.Author.Tests.{eq-eqb, ne-eqb, eqb-true, eqb-false, ltb-true, ltb-false, lt-leb}
+use Rattle.flows.specs.declared.Flow.{Flow}
+use Rattle.flows.specs.Lists.{mostFlows, held, rowOf}
+use Rattle.flows.specs.WellFormed.{Each, each-more}
+use Rattle.row.specs.Rows.{insertSorted, without, inserted, Rising, rising-none, rising-more}
+use Rattle.row.proofs.Arrays.{held-rowOf}
+
+-- no flow of that number
+abbrev pub Lacks : ℕ → List Flow → Type 0
+Lacks number fs = Each (λ f. f .number ≡ number → ⊥) fs
+
+-- ---- insertion and removal keep the numbers rising
+pub insert-rising : {n : ℕ} (f : Flow) (fs : List Flow) → n < f .number → Lacks (f .number) fs → Rising n fs → Rising n (insertSorted f fs)
+unfolding insertSorted
+insert-rising f [] h a r = rising-more h rising-none
+insert-rising {n} f (g ∷ gs) h (each-more d a) (rising-more i r) = go (ltb (f .number) (g .number)) refl (λ l. insert-rising f gs l a r)
+  where
+    go : (b : Bool) → ltb (f .number) (g .number) ≡ b → (g .number < f .number → Rising (g .number) (insertSorted f gs)) →
+        Rising n (cond b (f ∷ g ∷ gs) (g ∷ insertSorted f gs))
+    go true e ih = rising-more h (rising-more (ltb-true _ _ e) r)
+    go false e ih =
+        let l : g .number ≤ f .number = ltb-false _ _ e in
+        let m : g .number < f .number = ⊎-elim (λ (q : g .number ≡ f .number). absurd (d q)) (λ (q : g .number < f .number). q) (eq-or-lt-of-le l) in
+        rising-more i (ih m)
+
+rising-from : {m n : ℕ} (fs : List Flow) → m < n → Rising n fs → Rising m fs
+rising-from [] h r = rising-none
+rising-from {m} (f ∷ fs) h (rising-more i r) = let j : m < f .number = omega arith in rising-more j r
+
+pub without-rising : {n : ℕ} (number : ℕ) (fs : List Flow) → Rising n fs → Rising n (without number fs)
+unfolding without
+without-rising number [] r = rising-none
+without-rising {n} number (f ∷ fs) (rising-more h r) = go (eqb (f .number) number) (without-rising number fs r)
+  where
+    go : (b : Bool) → Rising (f .number) (without number fs) → Rising n (cond b fs (f ∷ without number fs))
+    go true ih = rising-from fs h r
+    go false ih = rising-more h ih
+
+-- ---- equal sets, equal rows
+above : {n : ℕ} {g : Flow} (fs : List Flow) → Rising n fs → List·Memᴰ g fs → n < g .number
+above [] r m = absurd (List·Memᴰ·not-nil m)
+above {n} {g} (f ∷ fs) (rising-more h r) m =
+    ⊎-elim (λ (e : g ≡ f). rw e h) (λ (i : List·Memᴰ g fs). let l = above fs r i in omega arith) (List·Memᴰ·cases-cons m)
+
+-- every flow of fs is one of gs
+abbrev Within : List Flow → List Flow → Type 0
+Within fs gs = (f : Flow) → List·Memᴰ f fs → List·Memᴰ f gs
+
+same-first : {m n : ℕ} (f g : Flow) (fs gs : List Flow) → Rising m (f ∷ fs) → Rising n (g ∷ gs) → Within (f ∷ fs) (g ∷ gs) → Within (g ∷ gs) (f ∷ fs) → f ≡ g
+same-first f g fs gs (rising-more h r) (rising-more i s) a b =
+    ⊎-elim (λ (e : f ≡ g). e)
+    (λ (p : List·Memᴰ f gs).
+    ⊎-elim (λ (e : g ≡ f). sym e)
+    (λ (q : List·Memᴰ g fs). let l = above gs s p in let k = above fs r q in absurd (omega arith))
+    (List·Memᴰ·cases-cons (b g (List·Memᴰ·head refl))))
+    (List·Memᴰ·cases-cons (a f (List·Memᴰ·head refl)))
+
+same-rest : {m : ℕ} (f g : Flow) (fs gs : List Flow) → Rising m (f ∷ fs) → f ≡ g → Within (f ∷ fs) (g ∷ gs) → Within fs gs
+same-rest f g fs gs (rising-more h r) e a x p =
+    ⊎-elim (λ (q : x ≡ g). let l = above fs r p in let k : x .number ≡ f .number = ap (λ (y : Flow). y .number) (q ∙ sym e) in absurd (omega arith))
+    (λ (q : List·Memᴰ x gs). q)
+    (List·Memᴰ·cases-cons (a x (List·Memᴰ·tail p)))
+
+pub same-flows : {m n : ℕ} (fs gs : List Flow) → Rising m fs → Rising n gs → Within fs gs → Within gs fs → fs ≡ gs
+same-flows [] [] r s a b = refl
+same-flows [] (g ∷ gs) r s a b = absurd (List·Memᴰ·not-nil (b g (List·Memᴰ·head refl)))
+same-flows (f ∷ fs) [] r s a b = absurd (List·Memᴰ·not-nil (a f (List·Memᴰ·head refl)))
+same-flows (f ∷ fs) (g ∷ gs) r s a b =
+    let e = same-first f g fs gs r s a b in
+    let t : fs ≡ gs = same-flows fs gs (rest r) (rest s) (same-rest f g fs gs r e a) (same-rest g f gs fs s (sym e) b) in
+    rw (e, t)
+  where
+    rest : {n : ℕ} {x : Flow} {xs : List Flow} → Rising n (x ∷ xs) → Rising (x .number) xs
+    rest (rising-more h r) = r
+
+-- The row is determined by its set of flows
+pub same-row : {m n : ℕ} (fs gs : List Flow) → Rising m fs → Rising n gs → Within fs gs → Within gs fs → rowOf fs ≡ rowOf gs
+same-row fs gs r s a b = ap rowOf (same-flows fs gs r s a b)
+
+-- ---- the flows present afterwards
+pub insert-has : (f : Flow) (fs : List Flow) → List·Memᴰ f (insertSorted f fs)
+unfolding insertSorted
+insert-has f [] = List·Memᴰ·head refl
+insert-has f (g ∷ gs) = go (ltb (f .number) (g .number)) (insert-has f gs)
+  where
+    go : (b : Bool) → List·Memᴰ f (insertSorted f gs) → List·Memᴰ f (cond b (f ∷ g ∷ gs) (g ∷ insertSorted f gs))
+    go true ih = List·Memᴰ·head refl
+    go false ih = List·Memᴰ·tail ih
+
+pub insert-keeps : (f x : Flow) (fs : List Flow) → List·Memᴰ x fs → List·Memᴰ x (insertSorted f fs)
+unfolding insertSorted
+insert-keeps f x [] m = absurd (List·Memᴰ·not-nil m)
+insert-keeps f x (g ∷ gs) m = go (ltb (f .number) (g .number)) (λ i. insert-keeps f x gs i) (List·Memᴰ·cases-cons m)
+  where
+    go : (b : Bool) → (List·Memᴰ x gs → List·Memᴰ x (insertSorted f gs)) → (x ≡ g) ⊎ List·Memᴰ x gs →
+        List·Memᴰ x (cond b (f ∷ g ∷ gs) (g ∷ insertSorted f gs))
+    go true ih p = List·Memᴰ·tail m
+    go false ih (inl e) = List·Memᴰ·head e
+    go false ih (inr i) = List·Memᴰ·tail (ih i)
+
+pub insert-only : (f x : Flow) (fs : List Flow) → List·Memᴰ x (insertSorted f fs) → (x ≡ f) ⊎ List·Memᴰ x fs
+unfolding insertSorted
+insert-only f x [] m = List·Memᴰ·cases-cons m
+insert-only f x (g ∷ gs) m = go (ltb (f .number) (g .number)) (λ i. insert-only f x gs i) m
+  where
+    down : (x ≡ f) ⊎ List·Memᴰ x gs → (x ≡ f) ⊎ List·Memᴰ x (g ∷ gs)
+    down (inl e) = inl e
+    down (inr i) = inr (List·Memᴰ·tail i)
+
+    go : (b : Bool) → (List·Memᴰ x (insertSorted f gs) → (x ≡ f) ⊎ List·Memᴰ x gs) → List·Memᴰ x (cond b (f ∷ g ∷ gs) (g ∷ insertSorted f gs)) →
+        (x ≡ f) ⊎ List·Memᴰ x (g ∷ gs)
+    go true ih p = List·Memᴰ·cases-cons p
+    go false ih p =
+        ⊎-elim (λ (e : x ≡ g). inr (List·Memᴰ·head e)) (λ (i : List·Memᴰ x (insertSorted f gs)). down (ih i)) (List·Memᴰ·cases-cons p)
+
+pub without-keeps : (number : ℕ) (x : Flow) (fs : List Flow) → (x .number ≡ number → ⊥) → List·Memᴰ x fs → List·Memᴰ x (without number fs)
+unfolding without
+without-keeps number x [] d m = absurd (List·Memᴰ·not-nil m)
+without-keeps number x (f ∷ fs) d m = go (eqb (f .number) number) refl (λ i. without-keeps number x fs d i) (List·Memᴰ·cases-cons m)
+  where
+    go : (b : Bool) → eqb (f .number) number ≡ b → (List·Memᴰ x fs → List·Memᴰ x (without number fs)) → (x ≡ f) ⊎ List·Memᴰ x fs →
+        List·Memᴰ x (cond b fs (f ∷ without number fs))
+    go true e ih (inl p) = absurd (d (ap (λ (y : Flow). y .number) p ∙ eqb-true _ _ e))
+    go true e ih (inr i) = i
+    go false e ih (inl p) = List·Memᴰ·head p
+    go false e ih (inr i) = List·Memᴰ·tail (ih i)
+
+pub without-only : {n : ℕ} (number : ℕ) (x : Flow) (fs : List Flow) → Rising n fs → List·Memᴰ x (without number fs) →
+    (x .number ≡ number → ⊥) × List·Memᴰ x fs
+unfolding without
+without-only number x [] r m = absurd (List·Memᴰ·not-nil m)
+without-only number x (f ∷ fs) (rising-more h r) m = go (eqb (f .number) number) refl (λ i. without-only number x fs r i) m
+  where
+    go : (b : Bool) → eqb (f .number) number ≡ b → (List·Memᴰ x (without number fs) → (x .number ≡ number → ⊥) × List·Memᴰ x fs) →
+        List·Memᴰ x (cond b fs (f ∷ without number fs)) → (x .number ≡ number → ⊥) × List·Memᴰ x (f ∷ fs)
+    go true e ih p =
+        let l = above fs r p in
+        let k = eqb-true (f .number) number e in
+        (λ q. omega arith, List·Memᴰ·tail p)
+    go false e ih p =
+        ⊎-elim
+        (λ (q : x ≡ f). (λ (z : x .number ≡ number). eqb-false (f .number) number e (sym (ap (λ (y : Flow). y .number) q) ∙ z), List·Memᴰ·head q))
+        (λ (i : List·Memᴰ x (without number fs)). (ih i .0, List·Memᴰ·tail (ih i .1)))
+        (List·Memᴰ·cases-cons p)
+
+-- ---- an insertion undone, and a removal of what is not there
+pub without-lacking : (number : ℕ) (fs : List Flow) → Lacks number fs → without number fs ≡ fs
+unfolding without
+without-lacking number [] a = refl
+without-lacking number (f ∷ fs) (each-more d a) = rw (ne-eqb (f .number) number d, without-lacking number fs a)
+
+pub without-insert : (f : Flow) (fs : List Flow) → Lacks (f .number) fs → without (f .number) (insertSorted f fs) ≡ fs
+unfolding without insertSorted
+without-insert f [] a = rw (eq-eqb (f .number) (f .number) refl)
+without-insert f (g ∷ gs) (each-more d a) = go (ltb (f .number) (g .number)) (without-insert f gs a)
+  where
+    go : (b : Bool) → without (f .number) (insertSorted f gs) ≡ gs → without (f .number) (cond b (f ∷ g ∷ gs) (g ∷ insertSorted f gs)) ≡ g ∷ gs
+    go true ih = rw (eq-eqb (f .number) (f .number) refl)
+    go false ih = rw (ne-eqb (g .number) (f .number) d, ih)
+
+-- Removal after insertion gives the old row
+pub remove-insert : (f : Flow) (fs : List Flow) → length fs < mostFlows → Lacks (f .number) fs →
+    rowOf (without (f .number) (held (inserted (rowOf fs) f))) ≡ rowOf fs
+unfolding inserted
+remove-insert f fs h a =
+    ap rowOf (rw (held-rowOf fs, lt-leb mostFlows (length fs) h, held-rowOf (insertSorted f fs)) (without-insert f fs a))
