@@ -32,7 +32,7 @@ abbrev pub flowOf : Flow → net.Flow
 flowOf f = record { number = f .number; priority = f .priority; period = f .period; jitter = f .jitter; deadline = f .deadline; path = pathOf f }
 
 abbrev pub figuresOf : Figures → net.Figures
-figuresOf g = record { bound = g .bound; spread = g .jitter; busy = g .busy }
+figuresOf g = record { bound = g .bound; jitter = g .jitter; busy = g .busy }
 
 abbrev pub noFlow : Flow
 noFlow = record {

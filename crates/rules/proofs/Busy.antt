@@ -68,7 +68,7 @@ module _ (N : Net) (i : Flow) (ok : Sound N i) where
   load-one : 1 ≤ load N i 1
   load-one = omega (arith, load-is N i 1, own-load 1 (omega arith))
 
-  busy-capped : Least (cap horizon (floored 1 (load N i))) (busyLength N i)
+  pub busy-capped : Least (cap horizon (floored 1 (load N i))) (busyLength N i)
   unfolding busyLength
   busy-capped = cap-least horizon (floored 1 (load N i)) (floored-rising 1 load-rising)
 
