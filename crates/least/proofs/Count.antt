@@ -1,9 +1,9 @@
 -- Laws of count and ceil. Assumes nothing.
-use mathlib.Core.Path.{_≡_, refl}
+use mathlib.Core.Path.{_≡_, refl, ap, _∙_}
 use mathlib.Core.Bool.{Bool, true, false}
 use mathlib.Core.Logic.{_⊎_, inl, inr}
 use Prim.Native.Nat.{ℕ, _+_, _-_, _*_, _/_, _≤_, _<_}
-use native.Mathlib.Nat.{le-refl, le-trans, le-div-iff-mul-le, div-lt-iff-lt-mul, mul-le-mul-left}
+use native.Mathlib.Nat.{le-refl, le-trans, le-div-iff-mul-le, div-lt-iff-lt-mul, div-zero, mul-le-mul-left}
 use native.Mathlib.Omega.{arith}
 use lib.Dec.{leb}
 use borrow.Author.Tests.{leb-true, leb-false, le-leb, lt-leb}
@@ -71,6 +71,19 @@ ceil-pos b t p q = elim (le-or-lt (ceil b t) 0) [ inl r ↦ omega (arith, le-cei
 -- rises with a; falls with b and with the period
 pub count-mono : {a a′ : ℕ} (b t : ℕ) → 0 < t → a ≤ a′ → count a b t ≤ count a′ b t
 count-mono {a} {a′} b t p h = count-le a b t (count a′ b t) p (omega (arith, le-count a′ b t (count a′ b t) p (le-refl _)))
+
+-- also without a period
+pub count-rises : {a a′ : ℕ} (b t : ℕ) → a ≤ a′ → count a b t ≤ count a′ b t
+count-rises {a} {a′} b t h = elim (le-or-lt t 0) [
+  | inl z ↦ elim (le-or-lt b a) [
+      | inl q ↦ omega (arith, count-in a b t q, count-in a′ b t (omega arith), flat z (a - b), flat z (a′ - b))
+      | inr q ↦ omega (arith, count-out a b t q)
+    ]
+  | inr p ↦ count-mono b t p h
+]
+  where
+    flat : t ≤ 0 → (x : ℕ) → x / t ≡ 0
+    flat z x = ap (λ s. x / s) (omega arith) ∙ div-zero x
 
 pub count-anti : (a : ℕ) {b b′ : ℕ} (t : ℕ) → 0 < t → b ≤ b′ → count a b′ t ≤ count a b t
 count-anti a {b} {b′} t p h = count-le a b′ t (count a b t) p (omega (arith, le-count a b t (count a b t) p (le-refl _)))

@@ -29,6 +29,9 @@ under-step {f} {x} m u = record {
   low = λ v h. le-trans (m x v (u .low v h)) h;
 }
 
+pub under-ext : {f g : ℕ → ℕ} {x : ℕ} → ((y : ℕ) → f y ≡ g y) → Under f x → Under g x
+under-ext {f} {g} {x} h u = record { up = omega (arith, h x, u .up); low = λ v q. u .low v (omega (arith, h v)) }
+
 pub under-done : {f : ℕ → ℕ} {x : ℕ} → Under f x → f x ≤ x → Least f x
 under-done {f} {x} u h = record { fixed = omega arith; lowest = u .low }
 

@@ -2,11 +2,11 @@
 use mathlib.Core.Path.{_≡_, refl, _∙_, sym, ap, ap₂}
 use mathlib.Core.Bool.{Bool, true, false}
 use mathlib.Core.List.{List, [], _∷_, _++_, map, List·Memᴰ, List·Memᴰ·head, List·Memᴰ·tail, Sublistᴰ, Sublistᴰ·slnil, Sublistᴰ·cons, Sublistᴰ·cons-cons}
-use Prim.Native.Nat.{ℕ, _+_, _*_, _≤_, _<_, max}
+use Prim.Native.Nat.{ℕ, zero, suc, _+_, _*_, _≤_, _<_, max}
 use native.Mathlib.Omega.{arith}
 use lib.ListN.{length}
 use Rattle.least.specs.Count.{pick}
-use Rattle.least.specs.Fold.{sumOf, maxOf, minOf, only, anyOf}
+use Rattle.least.specs.Fold.{sumTo, sumOf, maxOf, minOf, only, anyOf}
 
 pub false-true : {A : Type 0} → false ≡ true → A
 false-true e = absurd (let z : _≡_ {A = ℕ} 0 1 = cc in omega arith)
@@ -151,6 +151,12 @@ module _ {A : Type 0} where
           (x : A) × List·Memᴰ x (y ∷ l) × (p x ≡ true)
       go ih true q e = (y, List·Memᴰ·head refl, q)
       go ih false q e = (let r = ih e in (r .0, List·Memᴰ·tail (r .1), r .2))
+
+-- over the numbers below n
+pub sum-to-le : (n : ℕ) (f g : ℕ → ℕ) → ((j : ℕ) → j < n → f j ≤ g j) → sumTo n f ≤ sumTo n g
+unfolding sumTo
+sum-to-le zero f g h = omega arith
+sum-to-le (suc n) f g h = omega (arith, h n (omega arith), sum-to-le n f g (λ j l. h j (omega arith)))
 
 -- over a mapped list
 pub sum-map : {A B : Type 0} (f : B → ℕ) (g : A → B) (l : List A) → sumOf f (map g l) ≡ sumOf (λ x. f (g x)) l

@@ -1,8 +1,13 @@
 -- Sums, greatest and least values over a list of anything.
 use mathlib.Core.Bool.{Bool, true, false}
 use mathlib.Core.List.{List, [], _∷_}
-use Prim.Native.Nat.{ℕ, _+_, max, min}
+use Prim.Native.Nat.{ℕ, zero, suc, _+_, max, min}
 use Rattle.least.specs.Count.{pick}
+
+-- over the numbers below n
+unfoldable pub sumTo : ℕ → (ℕ → ℕ) → ℕ
+sumTo zero f = 0
+sumTo (suc n) f = sumTo n f + f n
 
 module _ {A : Type 0} where
   unfoldable pub sumOf : (A → ℕ) → List A → ℕ
