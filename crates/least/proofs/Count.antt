@@ -76,9 +76,9 @@ count-mono {a} {a′} b t p h = count-le a b t (count a′ b t) p (omega (arith,
 pub count-rises : {a a′ : ℕ} (b t : ℕ) → a ≤ a′ → count a b t ≤ count a′ b t
 count-rises {a} {a′} b t h = elim (le-or-lt t 0) [
   | inl z ↦ elim (le-or-lt b a) [
-      | inl q ↦ omega (arith, count-in a b t q, count-in a′ b t (omega arith), flat z (a - b), flat z (a′ - b))
-      | inr q ↦ omega (arith, count-out a b t q)
-    ]
+    | inl q ↦ omega (arith, count-in a b t q, count-in a′ b t (omega arith), flat z (a - b), flat z (a′ - b))
+    | inr q ↦ omega (arith, count-out a b t q)
+  ]
   | inr p ↦ count-mono b t p h
 ]
   where

@@ -1,2 +1,5 @@
 pub mod Terms
 pub mod Sums
+pub mod Climb
+pub mod Nodes
+pub mod Tries

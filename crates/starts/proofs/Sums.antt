@@ -22,6 +22,16 @@ term-le : (e : List ℕ) (v v′ : ℕ → ℕ) (k : ℕ) → v (values e k % 16
 unfolding termOf
 term-le e v v′ k h = mul-le-mul-right (values e (k + 4)) (count-rises (values e (k + 2)) (values e (k + 3)) (omega arith))
 
+pub sheet-ext : (e : List ℕ) (p n : ℕ) (v v′ : ℕ → ℕ) → ((k : ℕ) → v k ≡ v′ k) → sheetSum e p n v ≡ sheetSum e p n v′
+unfolding sheetSum
+sheet-ext e p n v v′ h = omega (
+  arith,
+  sum-to-le n (λ j. termOf e v (p * blockSize + 2 + j * entrySize)) (λ j. termOf e v′ (p * blockSize + 2 + j * entrySize))
+      (λ j q. term-le e v v′ (p * blockSize + 2 + j * entrySize) (le-of-eq (h (values e (p * blockSize + 2 + j * entrySize) % 16)))),
+  sum-to-le n (λ j. termOf e v′ (p * blockSize + 2 + j * entrySize)) (λ j. termOf e v (p * blockSize + 2 + j * entrySize))
+      (λ j q. term-le e v′ v (p * blockSize + 2 + j * entrySize) (le-of-eq (sym (h (values e (p * blockSize + 2 + j * entrySize) % 16))))),
+)
+
 -- a sum rises with the values that its counts look at
 module _ (e : List ℕ) (n m : ℕ) (fit : Fit e n m) where
   pub sums-le : (u u′ p : ℕ) → p < m → u ≤ u′ → (x x′ : ℕ → ℕ) → ((l : ℕ) → l < p → x l ≤ x′ l) → (w w′ : ℕ) → w ≤ w′ → sums e n u p x w ≤ sums e n u′ p x′ w′

@@ -25,6 +25,10 @@ blockSize = 82
 abbrev pub sheetSize : ℕ
 sheetSize = 656
 
+-- the horizon H
+abbrev pub mostTime : ℕ
+mostTime = 65535
+
 -- the slots of the starting time sought, and of the instant
 abbrev pub hereSlot : ℕ
 hereSlot = 8

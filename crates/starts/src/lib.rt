@@ -1,8 +1,11 @@
 // Starting times and response bounds of one flow, from a sheet of numbers that hangs neither on the instant nor on W.
 ghost use mathlib.Core.Path.{_≡_};
-ghost use Prim.Native.Nat.{_+_, _*_, _<_, _≤_};
+ghost use Prim.Native.Nat.{_+_, _-_, _<_, _≤_, max};
 ghost use Rattle.least.specs.Count.{count};
-ghost use Rattle.starts.specs.Sheet.{mostFlows, mostNodes, entrySize, sheetSize, values, termOf, sheetSum, Read};
+ghost use Rattle.least.specs.Fixed.{Under};
+ghost use Rattle.starts.specs.Sheet.{mostFlows, mostNodes, mostTime, entrySize, sheetSize, instantSlot, values, termOf, sheetSum, sums, Small, Read, Fit};
+ghost use Rattle.starts.specs.Begins.{BeginIs, BeginFits};
+ghost use Rattle.starts.specs.Runs.{Low, InstantIs, ResponsesAre};
 
 // An entry of the sheet: where the count looks, what is added, what is taken off, period, weight.
 pub const ENTRY: usize = 5;
@@ -12,12 +15,17 @@ pub const BLOCK: usize = 82;
 
 pub const SHEET: usize = 656;
 
+pub const NODES: usize = 8;
+
 // Where a count may look: the starting times at the nodes of the path, the one sought, the instant.
 pub const SLOTS: usize = 16;
 
 pub const HERE: usize = 8;
 
 pub const INSTANT: usize = 9;
+
+// The horizon H.
+pub const HORIZON: u64 = 65535;
 
 fn count_of(a: u64, b: u64, t: u64) -> u64
     requires { ⌜ a < 4194304 ⌝ }
@@ -64,4 +72,112 @@ fn sum_at(e: &[u64; SHEET], v: &[u64; SLOTS], p: usize, n: usize) -> u64
         j += 1;
     }
     sum
+}
+
+// A starting time, or that its response bound passes the horizon.
+pub enum Begin {
+    At(u64),
+    Past,
+}
+
+// The starting time at node p, upwards from a value that is not above it.
+fn start_at(e: &[u64; SHEET], v: [u64; SLOTS], p: usize, n: usize, from: u64) -> Begin
+    requires { ⌜ (p < mostNodes) × (n ≤ mostFlows) × Read (now e) v × (values v instantSlot ≤ mostTime) × (from < 1048576) ⌝ }
+    ensures { λ r. ⌜ (Fit (now (e .entry)) n (p + 1) → Under (sums (now (e .entry)) n (values v instantSlot) p (values v)) from → BeginIs (now (e .entry)) n (values v instantSlot) p (values v) r) ⌝ }
+    ensures { λ r. ⌜ BeginFits (now (e .entry)) (values v instantSlot) p r ⌝ }
+{
+    let add = e[p * BLOCK + 1];
+    let last = HORIZON + v[INSTANT];
+    let mut slots = v;
+    let mut w = from;
+    while w + add <= last {
+        slots[HERE] = w;
+        let sum = sum_at(e, &slots, p, n);
+        if sum <= w {
+            return Begin::At(w);
+        }
+        w = sum;
+    }
+    Begin::Past
+}
+
+// The starting times at an instant, and the greatest response bounds so far; past, where one passes the horizon.
+pub struct Run {
+    pub slots: [u64; SLOTS],
+    pub best: [u64; NODES],
+    pub past: bool,
+}
+
+fn larger(a: u64, b: u64) -> u64
+    ensures { λ r. ⌜ r ≡ max a b ⌝ }
+{
+    if a < b {
+        return b;
+    }
+    a
+}
+
+// a − b, and 0 below that
+fn less(a: u64, b: u64) -> u64
+    ensures { λ r. ⌜ r ≡ a - b ⌝ }
+{
+    if a < b {
+        return 0;
+    }
+    a - b
+}
+
+// The instant u at the first m nodes, from the run up to the instant before.
+fn instant(e: &[u64; SHEET], run: Run, n: usize, m: usize, u: u64) -> Run
+    requires { ⌜ (m ≤ mostNodes) × (n ≤ mostFlows) × (u ≤ mostTime) × Read (now e) (run .slots) × Low (run .best) ⌝ }
+    ensures { λ r. ⌜ InstantIs (now (e .entry)) n m u (run .slots) (run .best) (r .past) (r .slots) (r .best) ⌝ }
+    ensures { λ r. ⌜ Small (r .slots) × Low (r .best) ⌝ }
+{
+    let mut slots = run.slots;
+    let mut best = run.best;
+    slots[INSTANT] = u;
+    let mut p: usize = 0;
+    while p < m {
+        let from = slots[p];
+        let Begin::At(w) = start_at(e, slots, p, n, from) else {
+            return Run {
+                slots,
+                best,
+                past: true,
+            };
+        };
+        slots[p] = w;
+        let add = e[p * BLOCK + 1];
+        let bound = less(w + add, u);
+        let so_far = best[p];
+        best[p] = larger(so_far, bound);
+        p += 1;
+    }
+    Run {
+        slots,
+        best,
+        past: false,
+    }
+}
+
+// The response bounds at the first m nodes, over every instant below the busy length.
+pub fn responses(e: &[u64; SHEET], n: usize, m: usize, busy: u64) -> Run
+    requires { ⌜ (m ≤ mostNodes) × (n ≤ mostFlows) × (busy ≤ mostTime) × Small (now e) ⌝ }
+    ensures { λ r. ⌜ ResponsesAre (now (e .entry)) n m busy (r .past) (r .best) ⌝ }
+    ensures { λ r. ⌜ Low (r .best) ⌝ }
+{
+    let mut run = Run {
+        slots: [0u64; SLOTS],
+        best: [0u64; NODES],
+        past: false,
+    };
+    let mut u: u64 = 0;
+    while u < busy {
+        run = instant(e, run, n, m, u);
+        if run.past {
+            return run;
+        }
+        u += 1;
+    }
+    run
 }
