@@ -14,6 +14,8 @@ use Rattle.rules.specs.Net.{Hop, Flow}
 use Rattle.rules.specs.Formula.{Role, Own, Higher, Equal, Lower, role, visits, firstOn, lastOn, slowest, earliest, slowestNode, crosses}
 use Rattle.rules.specs.Judge.{meetsAgain, returns}
 use Rattle.flows.proofs.Arrays.{nowhere}
+use Rattle.pairs.specs.declared.Side.{Side}
+use Rattle.pairs.specs.Pairs.{sideRole}
 use Rattle.paths.proofs.Loops.{drop-next, drop-past}
 
 -- a value chosen by whether P visits
@@ -137,3 +139,7 @@ slowest-found P i c r e q = q ∙ ap (λ x. earliest x P) e
 
 pub same-node : (x y a b : ℕ) → x ≡ a → y ≡ b → eqb x y ≡ eqb a b
 same-node x y a b p q = rw (p, q)
+
+-- what is read of a side is read of the role
+pub told : (f : Role → Bool) (v s : Side) (R : Role) → sideRole s ≡ R → s ≡ v → f (sideRole v) ≡ f R
+told f v s R e q = ap f (ap sideRole (sym q) ∙ e)

@@ -5,7 +5,7 @@ ghost use Prim.Native.Nat.{_+_, _≤_, _<_};
 ghost use lib.Dec.{eqb};
 ghost use lib.ListN.{length, drop};
 ghost use Rattle.least.specs.Count.{pick};
-ghost use Rattle.rules.specs.Formula.{role, visits, slowest, firstOn, lastOn, slowestNode, earliest, crosses};
+ghost use Rattle.rules.specs.Formula.{role, higherOrEqual, lower, visits, slowest, firstOn, lastOn, slowestNode, earliest, crosses};
 ghost use Rattle.rules.specs.Judge.{meetsAgain, returns};
 ghost use Rattle.flows.specs.Lists.{pathOf, flowOf};
 ghost use Rattle.paths.specs.Paths.{hopAt};
@@ -107,6 +107,28 @@ pub fn side_of(i: Flow, j: Flow) -> Side
         return Side::Equal;
     }
     Side::Lower
+}
+
+pub fn higher_or_equal(i: Flow, j: Flow) -> bool
+    ensures { λ r. ⌜ r ≡ higherOrEqual (role (flowOf i) (flowOf j)) ⌝ }
+{
+    match side_of(i, j) {
+        Side::Own => false,
+        Side::Higher => true,
+        Side::Equal => true,
+        Side::Lower => false,
+    }
+}
+
+pub fn is_lower(i: Flow, j: Flow) -> bool
+    ensures { λ r. ⌜ r ≡ lower (role (flowOf i) (flowOf j)) ⌝ }
+{
+    match side_of(i, j) {
+        Side::Own => false,
+        Side::Higher => false,
+        Side::Equal => false,
+        Side::Lower => true,
+    }
 }
 
 // The first node of p with that cost; 0 if there is none.
