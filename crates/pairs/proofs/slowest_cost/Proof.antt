@@ -1,0 +1,57 @@
+use Prim.Native.Nat.{_-_, _≤_, max}
+use mathlib.Core.Path.{_≡_}
+use native.Mathlib.Omega.{arith}
+use lib.ListN.{drop}
+use borrow.Author.Needs.{needs}
+use Rattle.paths.proofs.Loops.{max-more, max-end}
+use Rattle.flows.specs.Lists.{pathOf}
+use Rattle.rules.specs.Formula.{visits, slowest}
+use Rattle.least.specs.Fold.{maxOf, only}
+use Rattle.pairs.proofs.slowest_cost.Statement.{statement}
+use Rattle.pairs.proofs.slowest_cost.Tie as tie
+
+abbrev Inv-loop : tie.InvT-loop
+Inv-loop p f n most₀ k₀ most k = (most ≤ 65535) × (max most (maxOf (only (λ q. visits (pathOf p) (q .node)) (λ q. q .cost)) (drop k (pathOf f))) ≡ slowest (pathOf p) (pathOf f))
+
+abbrev μ-loop : tie.MeasureT-loop
+μ-loop p f n most₀ k₀ most k = n - k
+
+path-end-requires : tie.Need-path-end-requires Inv-loop μ-loop
+path-end-requires c κs = search needs
+
+loop-holds : tie.Need-loop-holds Inv-loop μ-loop
+unfolding slowest
+loop-holds c = (search needs, omega arith)
+
+cost-shared-requires : tie.Need-cost-shared-requires Inv-loop μ-loop
+cost-shared-requires c κs = search needs
+
+greater-requires : tie.Need-greater-requires Inv-loop μ-loop
+greater-requires c κs = search needs
+
+add-k : tie.Need-add-k Inv-loop μ-loop
+add-k c = search needs
+
+loop-less : tie.Need-loop-less Inv-loop μ-loop
+loop-less c = search needs
+
+loop-again : tie.Need-loop-again Inv-loop μ-loop
+loop-again c = (search needs, search max-more)
+
+returns : tie.Need-returns Inv-loop μ-loop
+returns c = (search max-end, search needs)
+
+pub slowest-cost-spec : {M : Type 1} → statement M
+slowest-cost-spec =
+    tie.close
+    (tie.spec
+    Inv-loop
+    μ-loop
+    path-end-requires
+    loop-holds
+    cost-shared-requires
+    greater-requires
+    add-k
+    loop-less
+    loop-again
+    returns)
