@@ -112,6 +112,18 @@ count-some a b t p h = omega (arith, count-in a b t h)
 pub count-few : (a b t : ℕ) → 0 < t → count a b t ≤ a + 1
 count-few a b t p = count-le a b t (a + 1) p (omega (arith, mul-le-mul-left (a + 1) p))
 
+-- all but the first
+pub count-after : (a t : ℕ) → 0 < t → count a t t + 1 ≡ count a 0 t
+count-after a t p = omega (
+  arith,
+  count-some a 0 t p (omega arith),
+  count-le a 0 t (count a t t + 1) p (omega (arith, le-count a t t (count a t t) p (le-refl _))),
+  count-le a t t (count a 0 t - 1) p (omega (arith, le-count a 0 t (count a 0 t) p (le-refl _), count-some a 0 t p (omega arith), back (count a 0 t) (count-some a 0 t p (omega arith)))),
+)
+  where
+    back : (n : ℕ) → 0 < n → n * t ≡ (n - 1) * t + t
+    back n q = let e : n ≡ n - 1 + 1 = omega arith in ap (λ m. m * t) e ∙ omega arith
+
 -- both ends moved alike
 pub count-shift : (a b c t : ℕ) → 0 < t → count (a + c) (b + c) t ≡ count a b t
 count-shift a b c t p = omega (

@@ -1,11 +1,13 @@
 -- Laws of sums, greatest and least values over a list. Hypotheses speak of the list's members alone. Assumes nothing.
 use mathlib.Core.Path.{_≡_, refl, _∙_, sym, ap, ap₂}
 use mathlib.Core.Bool.{Bool, true, false}
+use mathlib.Core.Logic.{inl, inr}
 use mathlib.Core.List.{List, [], _∷_, _++_, map, List·Memᴰ, List·Memᴰ·head, List·Memᴰ·tail, Sublistᴰ, Sublistᴰ·slnil, Sublistᴰ·cons, Sublistᴰ·cons-cons}
 use Prim.Native.Nat.{ℕ, zero, suc, _+_, _*_, _≤_, _<_, max}
 use native.Mathlib.Omega.{arith}
-use lib.ListN.{length}
+use lib.ListN.{length, getD}
 use Rattle.least.specs.Count.{pick}
+use Rattle.least.proofs.Count.{le-or-lt}
 use Rattle.least.specs.Fold.{sumTo, sumOf, maxOf, minOf, only, anyOf}
 
 pub false-true : {A : Type 0} → false ≡ true → A
@@ -157,6 +159,40 @@ pub sum-to-le : (n : ℕ) (f g : ℕ → ℕ) → ((j : ℕ) → j < n → f j �
 unfolding sumTo
 sum-to-le zero f g h = omega arith
 sum-to-le (suc n) f g h = omega (arith, h n (omega arith), sum-to-le n f g (λ j l. h j (omega arith)))
+
+pub sum-to-add : (n : ℕ) (f g : ℕ → ℕ) → sumTo n (λ j. f j + g j) ≡ sumTo n f + sumTo n g
+unfolding sumTo
+sum-to-add zero f g = refl
+sum-to-add (suc n) f g = omega (arith, sum-to-add n f g)
+
+pub sum-to-ext : (n : ℕ) (f g : ℕ → ℕ) → ((j : ℕ) → j < n → f j ≡ g j) → sumTo n f ≡ sumTo n g
+unfolding sumTo
+sum-to-ext zero f g h = refl
+sum-to-ext (suc n) f g h = omega (arith, h n (omega arith), sum-to-ext n f g (λ j l. h j (omega arith)))
+
+-- one number alone
+pub sum-to-none : (n : ℕ) (f : ℕ → ℕ) → ((j : ℕ) → j < n → f j ≡ 0) → sumTo n f ≡ 0
+unfolding sumTo
+sum-to-none zero f h = refl
+sum-to-none (suc n) f h = omega (arith, h n (omega arith), sum-to-none n f (λ j l. h j (omega arith)))
+
+pub sum-to-one : (n a : ℕ) (f : ℕ → ℕ) → a < n → ((j : ℕ) → j < n → (j ≡ a → ⊥) → f j ≡ 0) → sumTo n f ≡ f a
+unfolding sumTo
+sum-to-one zero a f l h = absurd (omega arith)
+sum-to-one (suc n) a f l h = elim (le-or-lt n a) [
+  | inl q ↦ (let e : a ≡ n = omega arith in omega (arith, ap f e, sum-to-none n f (λ j r. h j (omega arith) (λ z. omega arith))))
+  | inr q ↦ omega (arith, h n (omega arith) (λ z. omega arith), sum-to-one n a f q (λ j r. h j (omega arith)))
+]
+
+-- the elements of a list by place
+pub sum-to-list : {A : Type 0} (f : A → ℕ) (l : List A) (d : A) → sumTo (length l) (λ j. f (getD l j d)) ≡ sumOf f l
+unfolding sumOf sumTo
+sum-to-list f [] d = refl
+sum-to-list f (x ∷ l) d = sum-to-first (length l) (λ j. f (getD (x ∷ l) j d)) ∙ ap (λ s. f x + s) (sum-to-list f l d)
+  where
+    sum-to-first : (n : ℕ) (g : ℕ → ℕ) → sumTo n g + g n ≡ g 0 + sumTo n (λ j. g (suc j))
+    sum-to-first zero g = omega arith
+    sum-to-first (suc n) g = omega (arith, sum-to-first n g)
 
 -- over a mapped list
 pub sum-map : {A B : Type 0} (f : B → ℕ) (g : A → B) (l : List A) → sumOf f (map g l) ≡ sumOf (λ x. f (g x)) l

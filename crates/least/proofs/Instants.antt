@@ -46,6 +46,11 @@ best-above φ (suc n) t h = elim (le-or-lt n t) [
     same : n ≤ t → n ≡ t
     same q = omega arith
 
+pub best-ext : (φ ψ : ℕ → ℕ) → ((t : ℕ) → φ t ≡ ψ t) → (n : ℕ) → bestTo φ n ≡ bestTo ψ n
+unfolding bestTo
+best-ext φ ψ h zero = refl
+best-ext φ ψ h (suc n) = omega (arith, h n, best-ext φ ψ h n)
+
 -- the best is reached, unless nothing lies above its instant
 best-reached : (φ : ℕ → ℕ) (n : ℕ) → ((t : ℕ) × (φ t ≡ bestTo φ n + t)) ⊎ (bestTo φ n ≡ 0)
 unfolding bestTo

@@ -32,7 +32,7 @@ prefix-self h (k ∷ ks) e = go (prefix-self h ks) (eqb (k .node) h) refl (visit
     go ih false q (inr v) = visits-there k (prefix h ks) h (ih v)
 
 -- the cost that is taken off is covered by the flow's own slowest
-cost-slowest : (h : ℕ) (l : List Hop) → visits l h ≡ true → costAt l h ≤ slowest (prefix h l) l
+pub cost-slowest : (h : ℕ) (l : List Hop) → visits l h ≡ true → costAt l h ≤ slowest (prefix h l) l
 unfolding there slowest
 cost-slowest h l v =
     max-le _ _ l

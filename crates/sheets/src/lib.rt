@@ -1,0 +1,1 @@
+// The sheet of a flow: what of the formula hangs neither on the instant nor on W.
