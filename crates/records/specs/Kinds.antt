@@ -1,5 +1,5 @@
 -- The kinds of a plan's records, and the length that each fixes for its body.
-use Prim.Native.Nat.{ℕ}
+use Prim.Native.Nat.{ℕ, _+_}
 
 -- 01: Lmin, Lmax
 abbrev pub linksKind : ℕ
@@ -21,3 +21,10 @@ flowNodes = 8
 -- 7F: end, no body
 abbrev pub endKind : ℕ
 endKind = 127
+
+-- a whole record is its kind and its body
+abbrev pub linksRecord : ℕ
+linksRecord = 1 + linksBody
+
+abbrev pub flowRecord : ℕ
+flowRecord = 1 + flowBody

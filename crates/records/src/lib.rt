@@ -16,6 +16,11 @@ pub const LINKS_BODY: usize = 4;
 
 pub const FLOW_BODY: usize = 33;
 
+// A whole record is its kind and its body.
+pub const LINKS_RECORD: usize = 1 + LINKS_BODY;
+
+pub const FLOW_RECORD: usize = 1 + FLOW_BODY;
+
 // Kind 02 has eight nodes and costs, whatever a path may have at most.
 const FLOW_NODES: usize = 8;
 

@@ -5,7 +5,7 @@ use mathlib.Core.Bool.{Bool, true, false, cond, not}
 use mathlib.Core.List.{List, [], _∷_, _++_}
 use native.Mathlib.Numerals.{add-one}
 use native.Mathlib.Omega.{arith}
-use lib.ListN.{length, getD, drop, set, replicate, length-append, length-take, drop-of-length-le}
+use lib.ListN.{length, getD, take, drop, set, replicate, length-append, length-take, drop-of-length-le}
 use lib.Seq.{set-append-seam, append-snoc, take-append-seam, drop-cons, getD-take}
 use lib.Dec.{leb, ltb}
 use borrow.Author.Tests.{eq-eqb, ne-eqb, lt-ltb, le-ltb, le-leb, lt-leb, not-true, not-false}
@@ -49,6 +49,16 @@ module _ (row : Row) (len : length (row .flows) ≡ mostFlows) where
   pub held-at : (k : ℕ) (d : Flow) → k < length (held row) → getD (held row) k d ≡ getD (row .flows) k d
   unfolding held
   held-at k d h = getD-take (row .count) (row .flows) k d (omega (arith, length-take (row .count) (row .flows)))
+
+take-counted : {A : Type 0} (l : List A) (k m : ℕ) → m ≡ length (take k l) → take m l ≡ take k l
+take-counted l zero m e = rw e
+take-counted [] (suc k) m e = rw e
+take-counted (x ∷ l) (suc k) zero e = absurd (omega arith)
+take-counted (x ∷ l) (suc k) (suc m) e = ap (λ (r : List _). x ∷ r) (take-counted l k m (omega arith))
+
+pub held-all : (row : Row) (n : ℕ) → n ≡ length (held row) → take n (row .flows) ≡ held row
+unfolding held
+held-all row n e = take-counted (row .flows) (row .count) n e
 
 -- ---- a flow put at the end
 module _ (row : Row) (f : Flow) where

@@ -14,7 +14,7 @@ use Rattle.flows.specs.declared.Flow.{Flow}
 use Rattle.flows.specs.declared.Row.{Row}
 use Rattle.flows.specs.Lists.{mostFlows, held, rowOf}
 use Rattle.row.specs.Rows.{firstOf, placeOf, rankOf, insertSorted, without, inserted, appended}
-use Rattle.row.proofs.Arrays.{append-list}
+use Rattle.row.proofs.Arrays.{append-list, held-all}
 
 room-in : (r : Row) (fs : List Flow) → r ≡ rowOf fs → r .count < mostFlows → length fs < mostFlows
 unfolding rowOf
@@ -72,14 +72,7 @@ take-drop (x ∷ l) (suc p) (suc n) = rw suc-sub-suc (take-drop l p n)
 
 module _ (row : Row) (len : length (row .flows) ≡ mostFlows) (n : ℕ) (e : n ≡ length (held row)) where
   part : (at : ℕ) → take (n - at) (drop at (row .flows)) ≡ drop at (held row)
-  unfolding held
-  part at = rw (take-drop (row .flows) at n) (ap (drop at) (same (row .flows) (row .count) n e))
-    where
-      same : (l : List Flow) (k m : ℕ) → m ≡ length (take k l) → take m l ≡ take k l
-      same l zero m z = rw z
-      same [] (suc k) m z = rw z
-      same (x ∷ l) (suc k) zero z = absurd (omega arith)
-      same (x ∷ l) (suc k) (suc m) z = ap (λ (r : List Flow). x ∷ r) (same l k m (omega arith))
+  part at = rw (take-drop (row .flows) at n) (ap (drop at) (held-all row n e))
 
   front : (at : ℕ) → at ≤ length (held row) → take (at - 0) (drop 0 (row .flows)) ≡ take at (held row)
   unfolding held

@@ -1,0 +1,55 @@
+use native.Mathlib.Omega.{arith}
+use borrow.Author.Needs.{needs}
+use Rattle.plan.proofs.Places.{whole-links}
+use Rattle.plan.proofs.Steps.{plan-other, plan-delays, plan-read}
+use Rattle.plan.proofs.read.Statement.{statement}
+use Rattle.plan.proofs.read.Tie as tie
+
+kind-at-requires : tie.Need-kind-at-requires
+kind-at-requires c κs = search needs
+
+enum-told : tie.Need-enum-told
+enum-told c = search needs
+
+refuse-requires : tie.Need-refuse-requires
+refuse-requires c κs = search needs
+
+returns : tie.Need-returns
+returns c = search plan-other
+
+links-at-requires : tie.Need-links-at-requires
+links-at-requires c κs = omega (arith, whole-links _ _ _ (c .before .before .kind-at .ensures) (c .enum-told .given .1))
+
+delay-cause-requires : tie.Need-delay-cause-requires
+delay-cause-requires c κs = search needs
+
+accepted-requires : tie.Need-accepted-requires
+accepted-requires c κs = search needs
+
+refuse-requires-2 : tie.Need-refuse-requires-2
+refuse-requires-2 c κs = search needs
+
+returns-2 : tie.Need-returns-2
+returns-2 c = search plan-delays
+
+read-flows-requires : tie.Need-read-flows-requires
+read-flows-requires c κs = search needs
+
+returns-3 : tie.Need-returns-3
+returns-3 c = search plan-read
+
+pub read-spec : {M : Type 1} → statement M
+read-spec =
+    tie.close
+    (tie.spec
+    kind-at-requires
+    enum-told
+    refuse-requires
+    returns
+    links-at-requires
+    delay-cause-requires
+    accepted-requires
+    refuse-requires-2
+    returns-2
+    read-flows-requires
+    returns-3)

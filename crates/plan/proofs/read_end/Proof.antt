@@ -1,0 +1,47 @@
+use native.Mathlib.Omega.{arith}
+use borrow.Author.Needs.{needs}
+use Rattle.plan.proofs.Places.{whole-end}
+use Rattle.plan.proofs.Steps.{end-other, end-more, end-last}
+use Rattle.plan.proofs.read_end.Statement.{statement}
+use Rattle.plan.proofs.read_end.Tie as tie
+
+kind-at-requires : tie.Need-kind-at-requires
+kind-at-requires c κs = search needs
+
+enum-told : tie.Need-enum-told
+enum-told c = search needs
+
+refuse-requires : tie.Need-refuse-requires
+refuse-requires c κs = search needs
+
+returns : tie.Need-returns
+returns c = search end-other
+
+add-if1 : tie.Need-add-if1
+add-if1 c = omega (arith, whole-end _ _ _ (c .before .before .kind-at .ensures) (c .enum-told .given .1))
+
+add-refuse : tie.Need-add-refuse
+add-refuse c = search needs
+
+refuse-requires-2 : tie.Need-refuse-requires-2
+refuse-requires-2 c κs = search needs
+
+returns-2 : tie.Need-returns-2
+returns-2 c = search end-more
+
+returns-3 : tie.Need-returns-3
+returns-3 c = search end-last
+
+pub read-end-spec : {M : Type 1} → statement M
+read-end-spec =
+    tie.close
+    (tie.spec
+    kind-at-requires
+    enum-told
+    refuse-requires
+    returns
+    add-if1
+    add-refuse
+    refuse-requires-2
+    returns-2
+    returns-3)

@@ -1,0 +1,107 @@
+-- Reading a plan: records judged in order, each by its kind.
+use Prim.Native.Nat.{ℕ, zero, suc, _+_, _-_}
+use mathlib.Core.Bool.{Bool, cond, not, _&&_}
+use mathlib.Core.List.{List, [], _∷_, _++_}
+use lib.ListN.{length, getD, take, drop}
+use lib.Dec.{leb, ltb, eqb}
+use Rattle.flows.specs.declared.Flow.{Flow}
+use Rattle.flows.specs.declared.Row.{Row}
+use Rattle.flows.specs.declared.Cause.{Cause}
+use Rattle.flows.specs.declared.Cause.the-variants.{Accepted, Full, Malformed}
+use Rattle.flows.specs.Refusals.{acceptedBy, firstCause}
+use Rattle.flows.specs.Lists.{mostFlows, rowOf}
+use Rattle.flows.specs.Tests.{delayCause, flowCause}
+use Rattle.row.specs.Rows.{lastNumber}
+use Rattle.records.specs.declared.Links.{Links}
+use Rattle.records.specs.Kinds.{linksKind, linksBody, linksRecord, flowKind, flowBody, flowRecord, endKind}
+use Rattle.records.specs.Bodies.{linksRead, flowRead}
+use Rattle.plan.specs.declared.Kind.{Kind}
+use Rattle.plan.specs.declared.Kind.the-variants.{OfLinks, OfFlow, OfEnd, OfNone}
+use Rattle.plan.specs.declared.Reading.{Reading}
+
+-- a kind byte with so many bytes after it; none for an unknown kind or a short body
+unfoldable pub kindOf : ℕ → ℕ → Kind
+kindOf kind left =
+    cond (eqb kind endKind) OfEnd
+    (cond (eqb kind linksKind) (cond (ltb left linksBody) OfNone OfLinks)
+    (cond (eqb kind flowKind) (cond (ltb left flowBody) OfNone OfFlow) OfNone))
+
+-- the record at a place; none where no kind byte is left
+unfoldable pub kindAt : List ℕ → ℕ → Kind
+kindAt b at = cond (leb (length b) at) OfNone (kindOf (getD b at 0) (length b - (at + 1)))
+
+-- the body of the record at a place: the part of the plan after its kind byte
+abbrev pub bodyAt : List ℕ → ℕ → ℕ → List ℕ
+bodyAt b at n = take n (drop (at + 1) b)
+
+abbrev pub flowAt : List ℕ → ℕ → Flow
+flowAt b at = flowRead (bodyAt b at flowBody)
+
+abbrev pub linksAt : List ℕ → ℕ → Links
+linksAt b at = linksRead (bodyAt b at linksBody)
+
+-- a refused plan: the empty set and both link delays 0
+unfoldable pub refused : Cause → ℕ → Reading
+refused cause place = record { cause = cause; place = place; lmin = 0; lmax = 0; row = rowOf [] }
+
+-- the set that a plan lists
+abbrev pub listed : ℕ → ℕ → Row → Reading
+listed lmin lmax row = record { cause = Accepted; place = 0; lmin = lmin; lmax = lmax; row = row }
+
+-- reading goes on where a record has no cause against it
+unfoldable pub unless : Cause → ℕ → Reading → Reading
+unless cause place next = cond (acceptedBy cause) next (refused cause place)
+
+-- a number that does not rise; 0 is refused with 2, not 12
+unfoldable pub fallsTo : ℕ → ℕ → Bool
+fallsTo number last = not (eqb number 0) && leb number last
+
+-- a flow's record after those flows: 12 for its order, then 2, 3, 4, then 6
+unfoldable pub recordCause : List Flow → Flow → Cause
+recordCause fs f =
+    cond (fallsTo (f .number) (lastNumber fs)) Malformed
+    (firstCause (flowCause f) (cond (leb mostFlows (length fs)) Full Accepted))
+
+-- 7F, then nothing; a further byte is refused at its place, any other record at its own
+unfoldable pub atEnd : Kind → ℕ → ℕ → Row → List ℕ → ℕ → Reading
+atEnd OfEnd lmin lmax row b at =
+    cond (ltb (at + 1) (length b)) (refused Malformed (at + 1)) (listed lmin lmax row)
+atEnd OfLinks lmin lmax row b at = refused Malformed at
+atEnd OfFlow lmin lmax row b at = refused Malformed at
+atEnd OfNone lmin lmax row b at = refused Malformed at
+
+abbrev pub readEnd : ℕ → ℕ → Row → List ℕ → ℕ → Reading
+readEnd lmin lmax row b at = atEnd (kindAt b at) lmin lmax row b at
+
+-- a flow's record, or any other
+unfoldable pub ifFlow : Kind → Reading → Reading → Reading
+ifFlow OfFlow flow other = flow
+ifFlow OfLinks flow other = other
+ifFlow OfEnd flow other = other
+ifFlow OfNone flow other = other
+
+abbrev readRecord : ℕ → ℕ → List Flow → List ℕ → ℕ → Reading → Reading
+readRecord lmin lmax fs b at next =
+    ifFlow (kindAt b at) (unless (recordCause fs (flowAt b at)) at next) (readEnd lmin lmax (rowOf fs) b at)
+
+-- the records from a place on, after the flows fs, with room for so many more
+unfoldable pub readFlows : ℕ → ℕ → ℕ → List Flow → List ℕ → ℕ → Reading
+readFlows zero lmin lmax fs b at = readRecord lmin lmax fs b at (refused Full at)
+readFlows (suc room) lmin lmax fs b at =
+    readRecord lmin lmax fs b at (readFlows room lmin lmax (fs ++ (flowAt b at ∷ [])) b (at + flowRecord))
+
+abbrev pub readAfterLinks : ℕ → ℕ → List ℕ → Reading
+readAfterLinks lmin lmax b = readFlows mostFlows lmin lmax [] b linksRecord
+
+unfoldable pub ifLinks : Kind → Reading → Reading → Reading
+ifLinks OfLinks links other = links
+ifLinks OfFlow links other = other
+ifLinks OfEnd links other = other
+ifLinks OfNone links other = other
+
+-- one 01, then 0 to 16 of 02 with rising numbers, then 7F, then nothing
+unfoldable pub readPlan : List ℕ → Reading
+readPlan b =
+    ifLinks (kindAt b 0)
+    (unless (delayCause (linksAt b 0 .lmin) (linksAt b 0 .lmax)) 0 (readAfterLinks (linksAt b 0 .lmin) (linksAt b 0 .lmax) b))
+    (refused Malformed 0)

@@ -1,0 +1,40 @@
+-- Writing a plan: the bytes, the answer, and what the buffer then holds.
+use Prim.Native.Nat.{ℕ, _+_, _*_}
+use mathlib.Core.Bool.{cond}
+use mathlib.Core.List.{List, [], _∷_, _++_}
+use lib.ListN.{length, drop}
+use lib.Dec.{ltb}
+use Rattle.flows.specs.declared.Flow.{Flow}
+use Rattle.flows.specs.declared.Cause.the-variants.{ShortBuffer}
+use Rattle.flows.specs.Refusals.{refusalOf}
+use Rattle.records.specs.Kinds.{linksKind, linksRecord, flowKind, flowRecord, endKind}
+use Rattle.records.specs.Bodies.{linksWritten, flowWritten}
+use Rattle.plan.specs.declared.Written.{Written}
+use Rattle.plan.specs.declared.Written.the-variants.{Length, Refused}
+
+abbrev pub linksBytes : ℕ → ℕ → List ℕ
+linksBytes lmin lmax = linksKind ∷ linksWritten lmin lmax
+
+abbrev pub flowBytes : Flow → List ℕ
+flowBytes f = flowKind ∷ flowWritten f
+
+unfoldable pub flowsBytes : List Flow → List ℕ
+flowsBytes [] = []
+flowsBytes (f ∷ fs) = flowBytes f ++ flowsBytes fs
+
+-- 01, then each 02, then 7F
+unfoldable pub planBytes : ℕ → ℕ → List Flow → List ℕ
+planBytes lmin lmax fs = linksBytes lmin lmax ++ flowsBytes fs ++ (endKind ∷ [])
+
+-- the sum of the records: 6 + 34 × n
+abbrev pub planLength : ℕ → ℕ
+planLength n = linksRecord + flowRecord * n + 1
+
+-- 13: buffer shorter than the plan to be written
+unfoldable pub writtenInto : ℕ → ℕ → Written
+writtenInto space n = cond (ltb space (planLength n)) (Refused (refusalOf ShortBuffer 0)) (Length (planLength n))
+
+-- a buffer that long or longer gets the plan at its start and keeps the rest; a shorter one is unchanged
+unfoldable pub bufferAfter : ℕ → ℕ → List Flow → List ℕ → List ℕ
+bufferAfter lmin lmax fs old =
+    cond (ltb (length old) (planLength (length fs))) old (planBytes lmin lmax fs ++ drop (planLength (length fs)) old)
