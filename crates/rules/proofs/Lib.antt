@@ -12,3 +12,4 @@ pub mod Withdraw
 pub mod Exact
 pub mod Whole
 pub mod Shared
+pub mod Agree

@@ -1,0 +1,347 @@
+//! Document 01's plans tried by hand and its errors that look right. The
+//! figures are typed from the document; nothing here is worked out by the
+//! program that is being checked.
+
+use crate::flow::{Flow, Links};
+use crate::plan;
+use crate::refusal::Refusal;
+use crate::set::Set;
+use crate::table::Table;
+use crate::verdict::{judge_set, Figures};
+
+/// Bound, jitter, busy.
+type Row = (i64, i64, i64);
+
+/// 01: "Lmin = Lmax = 1".
+const LINKS: Links = Links { least: 1, most: 1 };
+
+/// Differences found, as lines to print.
+#[derive(Default)]
+pub struct Findings {
+    pub checks: usize,
+    pub differences: Vec<String>,
+}
+
+impl Findings {
+    fn same<T: PartialEq + std::fmt::Debug>(&mut self, name: &str, given: T, wanted: T) {
+        self.checks += 1;
+        if given != wanted {
+            self.differences
+                .push(format!("{name}: {given:?}, not {wanted:?}"));
+        }
+    }
+
+    fn unlike<T: PartialEq + std::fmt::Debug>(&mut self, name: &str, given: T, wrong: T) {
+        self.checks += 1;
+        if given == wrong {
+            self.differences
+                .push(format!("{name}: {given:?} is the error that looks right"));
+        }
+    }
+
+    /// The flows are judged as a plan, as a set, and by admissions in both
+    /// orders of number.
+    fn figures(&mut self, name: &str, flows: &[Flow], wanted: &[Row]) {
+        let rows: Vec<Figures> = flows
+            .iter()
+            .zip(wanted)
+            .map(|(f, w)| Figures {
+                number: f.number,
+                bound: w.0,
+                jitter: w.1,
+                busy: w.2,
+            })
+            .collect();
+        let set = set(flows);
+        self.same(name, plan::judge(&plan::write(&set)), Ok(rows.clone()));
+        self.same(name, judge_set(&set), Ok(rows.clone()));
+        self.same(
+            name,
+            admitted(flows.iter()).figures().to_vec(),
+            rows.clone(),
+        );
+        self.same(name, admitted(flows.iter().rev()).figures().to_vec(), rows);
+    }
+
+    fn refused(&mut self, name: &str, flows: &[Flow], number: i64, flow: i64) {
+        let wanted = Refusal::of_flow(number, flow);
+        let set = set(flows);
+        self.same(name, plan::judge(&plan::write(&set)), Err(wanted));
+        let (last, older) = flows.split_last().expect("a case has a flow");
+        let mut table = admitted(older.iter());
+        let before = table.clone();
+        self.same(name, table.admit(&last.record()), Err(wanted));
+        self.same(name, table, before);
+    }
+}
+
+/// 01: "one node, D = 60 and J = 0 unless said". Priority 1.
+fn flow(number: i64, cost: i64, period: i64) -> Flow {
+    Flow {
+        number,
+        priority: 1,
+        period,
+        jitter: 0,
+        deadline: 60,
+        path: vec![1],
+        costs: vec![cost],
+    }
+}
+
+fn on(path: &[i64], costs: &[i64], flow: Flow) -> Flow {
+    Flow {
+        path: path.to_vec(),
+        costs: costs.to_vec(),
+        ..flow
+    }
+}
+
+fn with_deadline(deadline: i64, flow: Flow) -> Flow {
+    Flow { deadline, ..flow }
+}
+
+fn with_jitter(jitter: i64, flow: Flow) -> Flow {
+    Flow { jitter, ..flow }
+}
+
+fn with_priority(priority: i64, flow: Flow) -> Flow {
+    Flow { priority, ..flow }
+}
+
+fn set(flows: &[Flow]) -> Set {
+    Set {
+        links: LINKS,
+        flows: flows.to_vec(),
+    }
+}
+
+/// A table after admissions; a refused one leaves its flow out, which shows in
+/// the figures.
+fn admitted<'a>(flows: impl Iterator<Item = &'a Flow>) -> Table {
+    let (mut table, _) = Table::fresh(LINKS);
+    for flow in flows {
+        let _ = table.admit(&flow.record());
+    }
+    table
+}
+
+fn case_3() -> [Flow; 2] {
+    [flow(1, 3, 10), flow(2, 5, 20)]
+}
+
+fn case_4() -> [Flow; 2] {
+    let [first, second] = case_3();
+    [with_priority(2, first), second]
+}
+
+fn case_5() -> [Flow; 2] {
+    let [first, second] = case_4();
+    [with_jitter(8, first), second]
+}
+
+fn case_6() -> [Flow; 2] {
+    [with_jitter(10, flow(1, 1, 100)), flow(2, 50, 100)]
+}
+
+fn case_10(jitter: i64) -> [Flow; 1] {
+    [with_deadline(65_535, with_jitter(jitter, flow(1, 1, 10)))]
+}
+
+/// Cases 1 to 14.
+pub fn cases(out: &mut Findings) {
+    case_1(out);
+    out.figures(
+        "case 2",
+        &[on(&[1, 2], &[4, 4], flow(1, 4, 20))],
+        &[(9, 0, 4)],
+    );
+    out.figures("case 3", &case_3(), &[(8, 5, 8), (8, 3, 8)]);
+    out.figures("case 4", &case_4(), &[(7, 4, 3), (8, 3, 8)]);
+    case_4_text(out);
+    out.figures("case 5", &case_5(), &[(15, 12, 3), (11, 6, 8)]);
+    out.figures("case 6", &case_6(), &[(51, 50, 51), (51, 1, 51)]);
+    let long = on(&[1, 2], &[4, 4], flow(1, 4, 20));
+    let short = on(&[2], &[3], flow(2, 3, 20));
+    out.figures("case 7", &[long, short], &[(12, 3, 7), (7, 4, 7)]);
+    out.figures(
+        "case 8",
+        &[flow(1, 5, 10), flow(2, 5, 10)],
+        &[(10, 5, 10), (10, 5, 10)],
+    );
+    out.refused("case 9", &[flow(1, 6, 10), flow(2, 5, 10)], 8, 1);
+    out.figures("case 10", &case_10(65_534), &[(65_535, 65_534, 1)]);
+    out.refused("case 10", &case_10(65_535), 9, 0);
+    let [first, second] = case_4();
+    let tight = |d| [first.clone(), with_deadline(d, second.clone())];
+    out.figures("case 11", &tight(8), &[(7, 4, 3), (8, 3, 8)]);
+    out.refused("case 11", &tight(7), 10, 2);
+    case_12(out);
+    case_13(out);
+    case_14(out);
+}
+
+fn case_1(out: &mut Findings) {
+    let bytes = plan::write(&set(&[]));
+    out.same("case 1", bytes.clone(), vec![0x01, 0, 1, 0, 1, 0x7F]);
+    out.same(
+        "case 1",
+        plan::judge_text(&bytes),
+        String::from("flow bound jitter busy\n"),
+    );
+}
+
+/// 01: "For case 4, whole".
+fn case_4_text(out: &mut Findings) {
+    let text = plan::judge_text(&plan::write(&set(&case_4())));
+    out.same(
+        "case 4, text",
+        text,
+        String::from("flow bound jitter busy\n1 7 4 3\n2 8 3 8\n"),
+    );
+}
+
+fn case_12(out: &mut Findings) {
+    let [first, second] = case_3();
+    let first = with_deadline(7, first);
+    out.figures("case 12, alone", std::slice::from_ref(&first), &[(3, 0, 3)]);
+    out.refused("case 12", &[first, second], 10, 1);
+}
+
+fn case_13(out: &mut Findings) {
+    let long = on(&[1, 2, 3], &[1, 1, 1], flow(1, 1, 10));
+    let short = on(&[1, 3], &[1, 1], flow(2, 1, 10));
+    let pair = |p, q| {
+        [
+            with_priority(p, long.clone()),
+            with_priority(q, short.clone()),
+        ]
+    };
+    out.same(
+        "case 13, second higher",
+        judge_set(&set(&pair(1, 2))).is_ok(),
+        true,
+    );
+    out.refused("case 13, equal", &pair(1, 1), 7, 2);
+    out.refused("case 13, second lower", &pair(2, 1), 7, 2);
+    // The same paths with the numbers exchanged: the shorter path is at fault.
+    let swapped = |p, q| {
+        let [a, b] = pair(p, q);
+        [Flow { number: 1, ..b }, Flow { number: 2, ..a }]
+    };
+    out.same(
+        "case 13, first higher",
+        judge_set(&set(&swapped(1, 2))).is_ok(),
+        true,
+    );
+    out.refused("case 13, exchanged, equal", &swapped(1, 1), 7, 1);
+    out.refused("case 13, exchanged, first lower", &swapped(2, 1), 7, 1);
+}
+
+fn case_14(out: &mut Findings) {
+    let mut table = admitted(case_3().iter());
+    out.same("case 14", table.withdraw(2), Ok(()));
+    let alone = Figures {
+        number: 1,
+        bound: 3,
+        jitter: 0,
+        busy: 3,
+    };
+    out.same("case 14", table.ask(1), Ok(alone));
+    let [first, _] = case_3();
+    out.same("case 14, table", table, admitted([first].iter()));
+}
+
+/// "Errors that look right".
+pub fn errors(out: &mut Findings) {
+    let bound = |flows: &[Flow], i: usize| judge_set(&set(flows)).map(|f| f[i].bound);
+    out.unlike("trying only t = -J", bound(&case_6(), 0), Ok(11));
+    out.unlike("rounding towards zero", bound(&case_6(), 0), Ok(61));
+    out.unlike("whole lower cost", bound(&case_4(), 0), Ok(8));
+    exchanged(out);
+    older_figures(out);
+    long_iteration(out);
+}
+
+/// 01: "in case 5, done to flow 1 alone, it gives 17 and 14; done to flow 2 it
+/// makes a period of 0." The exchanged plan has those figures and case 5 not.
+fn exchanged(out: &mut Findings) {
+    let [first, second] = case_5();
+    let exchange = |f: &Flow| Flow {
+        period: f.jitter,
+        jitter: f.period,
+        ..f.clone()
+    };
+    let bounds = |flows: &[Flow]| -> Vec<i64> {
+        judge_set(&set(flows)).map_or(vec![], |f| f.iter().map(|x| x.bound).collect())
+    };
+    out.same(
+        "exchanged",
+        bounds(&[exchange(&first), second.clone()]),
+        vec![17, 14],
+    );
+    out.unlike("exchanged", bounds(&case_5()), vec![17, 14]);
+    let broken = plan::write(&set(&[first, exchange(&second)]));
+    out.same("exchanged", plan::judge(&broken), Err(Refusal::at(3, 39)));
+}
+
+fn older_figures(out: &mut Findings) {
+    let [first, second] = case_3();
+    let mut table = admitted([first].iter());
+    let alone = table.ask(1);
+    out.same("older figures", table.admit(&second.record()), Ok(()));
+    out.unlike("older figures", table.ask(1), alone);
+}
+
+/// Sets that take long to come to rest, though settled bounds exist: a ring of
+/// two flows (some hundred rounds) and a tangle of three (some thousand).
+fn long_iteration(out: &mut Findings) {
+    let ring = |number, path: &[i64], jitter| {
+        let base = flow(number, 1, 100);
+        with_deadline(65_535, with_jitter(jitter, on(path, &[50, 50], base)))
+    };
+    let ring = [ring(1, &[1, 2], 1), ring(2, &[2, 1], 0)];
+    out.same("long iteration, ring", judge_set(&set(&ring)).is_ok(), true);
+    let tangle = |number, path: &[i64], jitter| {
+        let base = flow(number, 1, 3);
+        with_deadline(65_535, with_jitter(jitter, on(path, &[1, 1, 1, 1], base)))
+    };
+    let flows = vec![
+        tangle(1, &[3, 4, 2, 1], 8),
+        tangle(2, &[4, 1, 3, 2], 8),
+        tangle(3, &[2, 1, 4, 3], 15),
+    ];
+    let tangle = Set {
+        links: Links { least: 0, most: 3 },
+        flows,
+    };
+    out.same("long iteration, tangle", judge_set(&tangle).is_ok(), true);
+}
+
+#[cfg(test)]
+mod tests {
+    use super::*;
+
+    fn all_agree(check: fn(&mut Findings)) {
+        let mut out = Findings::default();
+        check(&mut out);
+        assert!(out.checks > 0);
+        assert!(out.differences.is_empty(), "{:#?}", out.differences);
+    }
+
+    #[test]
+    fn plans_tried_by_hand() {
+        all_agree(cases);
+    }
+
+    #[test]
+    fn errors_that_look_right() {
+        all_agree(errors);
+    }
+
+    #[test]
+    fn a_difference_is_reported() {
+        let mut out = Findings::default();
+        out.figures("wrong", &case_3(), &[(8, 5, 8), (8, 3, 9)]);
+        assert_eq!(out.differences.len(), out.checks);
+    }
+}

@@ -1,0 +1,58 @@
+//! A corpus of plans: for each, its length in two bytes, then its bytes.
+
+use crate::flow::{push_two, two};
+use crate::plan;
+use std::io::{self, Write};
+
+/// The plans of a corpus. What is left of a frame cut short is no plan.
+pub fn plans(mut input: &[u8]) -> Vec<&[u8]> {
+    let mut out = Vec::new();
+    while input.len() >= 2 {
+        let end = 2 + two(input, 0) as usize;
+        if input.len() < end {
+            break;
+        }
+        out.push(&input[2..end]);
+        input = &input[end..];
+    }
+    out
+}
+
+/// For each plan, what `judge` prints, then a line with a single dot.
+pub fn judge_all(input: &[u8], out: &mut dyn Write) -> io::Result<()> {
+    for bytes in plans(input) {
+        writeln!(out, "{}.", plan::judge_text(bytes))?;
+    }
+    Ok(())
+}
+
+pub fn push(out: &mut Vec<u8>, plan: &[u8]) {
+    push_two(out, plan.len() as i64);
+    out.extend(plan);
+}
+
+#[cfg(test)]
+mod tests {
+    use super::*;
+
+    #[test]
+    fn frames_follow_one_another() {
+        let mut input = Vec::new();
+        push(&mut input, &[0x01, 0, 1, 0, 1, 0x7F]);
+        push(&mut input, &[]);
+        push(&mut input, &[0x7F]);
+        assert_eq!(plans(&input).len(), 3);
+        let mut out = Vec::new();
+        judge_all(&input, &mut out).unwrap();
+        let text =
+            "flow bound jitter busy\n.\nrefused 12 flow 0 at 0\n.\nrefused 12 flow 0 at 0\n.\n";
+        assert_eq!(String::from_utf8(out).unwrap(), text);
+    }
+
+    #[test]
+    fn a_frame_cut_short_is_left_out() {
+        assert!(plans(&[]).is_empty());
+        assert!(plans(&[0]).is_empty());
+        assert!(plans(&[0, 2, 0x7F]).is_empty());
+    }
+}

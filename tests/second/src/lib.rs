@@ -1,0 +1,27 @@
+//! A second program for network plans, written from document 01 alone. Nothing
+//! in it is taken from the library that it is held against.
+
+pub mod arith;
+pub mod busy;
+pub mod calls;
+pub mod cases;
+pub mod damage;
+pub mod deadlines;
+pub mod dice;
+pub mod feedback;
+pub mod flow;
+pub mod frames;
+pub mod fronts;
+pub mod horizon;
+pub mod make_calls;
+pub mod make_frames;
+pub mod paths;
+pub mod plan;
+pub mod refusal;
+pub mod report;
+pub mod responses;
+pub mod set;
+pub mod sets;
+pub mod table;
+pub mod tangles;
+pub mod verdict;
