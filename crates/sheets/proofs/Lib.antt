@@ -1,3 +1,4 @@
 pub mod Places
 pub mod Link
 pub mod Whole
+pub mod Filling

@@ -8,7 +8,7 @@ use Rattle.least.specs.Count.{pick}
 use Rattle.rules.specs.Net.{Hop, Flow, Net}
 use Rattle.rules.specs.Formula.{Role, Own, Higher, Equal, Lower, role, firstOn, lastOn, costAt, smin, M, slowest, term4, term5, term6}
 use Rattle.paths.specs.Paths.{positionOf}
-use Rattle.starts.specs.Sheet.{entrySize, blockSize, mostNodes, hereSlot, instantSlot, values}
+use Rattle.starts.specs.Sheet.{entrySize, blockSize, sheetSize, mostNodes, hereSlot, instantSlot, values}
 
 abbrev pub noHop : Hop
 noHop = record { node = 0; cost = 0 }
@@ -108,3 +108,41 @@ placeIn n (i ∷ l) = pick (eqb (i .number) n) 0 (suc (placeIn n l))
 -- the response bounds that r holds, of a flow at a node
 abbrev pub responsesIn : Net → (ℕ → ℕ) → Flow → ℕ → ℕ
 responsesIn N r i h = r (placeIn (i .number) (N .flows) * mostNodes + positionOf h (i .path))
+
+-- A draft holds the sheets of all flows but for the response bounds: numbers, and for each the places of two response bounds to be added.
+abbrev pub draftAt : ℕ → ℕ → ℕ
+draftAt a k = a * sheetSize + k
+
+-- a number to which no response bound is added
+pub record Alone (nums from also : List ℕ) (k value : ℕ) : Type 0 where
+  pub number : values nums k ≡ value
+  pub first : values from k ≡ noPlace
+  pub second : values also k ≡ noPlace
+
+pub record DraftEntry (N : Net) (i j : Flow) (P : List Hop) (h a b : ℕ) (nums from also : List ℕ) (k : ℕ) : Type 0 where
+  pub look : Alone nums from also k (lookOf N i j P h (role i j))
+  pub plus : values nums (k + 1) ≡ plusOf N i j P h (role i j)
+  pub first : values from (k + 1) ≡ fromOf N i j P h b (role i j)
+  pub second : values also (k + 1) ≡ alsoOf N i j P h a (role i j)
+  pub less : Alone nums from also (k + 2) (lessOf N i j P h (role i j))
+  pub period : Alone nums from also (k + 3) (j .period)
+  pub weight : Alone nums from also (k + 4) (weightOf N i j P h (role i j))
+
+pub record DraftIs (N : Net) (nums from also : List ℕ) : Type 0 where
+  pub base : (a p : ℕ) → a < length (N .flows) → p < length (flowAt N a .path) →
+      Alone nums from also (draftAt a (p * blockSize)) (baseOf N (flowAt N a) (upTo (flowAt N a) p) (nodeAt (flowAt N a) p))
+  pub added : (a p : ℕ) → a < length (N .flows) → p < length (flowAt N a .path) →
+      Alone nums from also (draftAt a (p * blockSize + 1)) (addedOf (flowAt N a) (nodeAt (flowAt N a) p))
+  pub entry : (a p b : ℕ) → a < length (N .flows) → p < length (flowAt N a .path) → b < length (N .flows) →
+      DraftEntry N (flowAt N a) (flowAt N b) (upTo (flowAt N a) p) (nodeAt (flowAt N a) p) a b nums from also (draftAt a (p * blockSize + 2 + b * entrySize))
+
+-- a number of the draft with its response bounds
+abbrev pub filled : List ℕ → List ℕ → List ℕ → List ℕ → ℕ → ℕ
+filled nums from also replies k = values nums k + values replies (values from k) + values replies (values also k)
+
+abbrev pub FilledUpTo : List ℕ → List ℕ → List ℕ → List ℕ → ℕ → ℕ → List ℕ → Type 0
+FilledUpTo nums from also replies a n sheet = (k : ℕ) → k < n → values sheet k ≡ filled nums from also replies (draftAt a k)
+
+-- so small that two response bounds more are still small
+abbrev pub HalfSmall : List ℕ → Type 0
+HalfSmall l = (k : ℕ) → values l k < 524288

@@ -1,0 +1,55 @@
+-- Filling a sheet from its draft. Assumes nothing.
+use mathlib.Core.Path.{_≡_, refl, sym, ap, _∙_, subst}
+use mathlib.Core.Bool.{Bool, true, false}
+use mathlib.Core.List.{List}
+use Prim.Native.Nat.{ℕ, zero, suc, _+_, _*_, _≤_, _<_}
+use native.Mathlib.Omega.{arith}
+use lib.Dec.{eqb}
+use lib.ListN.{length, set, replicate, length-set, length-replicate}
+use lib.Seq.{getD-set-same, getD-set-other}
+use borrow.Author.Count.{below-more}
+use borrow.Author.Tests.{eqb-true, eqb-false}
+use Rattle.starts.specs.Sheet.{sheetSize, values, Small}
+use Rattle.starts.specs.Runs.{Low}
+use Rattle.starts.proofs.Nodes.{set-cases}
+use Rattle.sheets.specs.Fields.{draftAt, filled, FilledUpTo, HalfSmall}
+
+pub zeros : (n k : ℕ) → values (replicate n 0) k ≡ 0
+zeros zero k = refl
+zeros (suc n) zero = refl
+zeros (suc n) (suc k) = zeros n k
+
+module _ (nums from also replies : List ℕ) (a : ℕ) where
+  pub record Filling (sheet : List ℕ) (k : ℕ) : Type 0 where
+    pub few : k ≤ sheetSize
+    pub long : length sheet ≡ sheetSize
+    pub done : FilledUpTo nums from also replies a k sheet
+    pub small : Small sheet
+
+  pub filling-start : Filling (replicate sheetSize 0) 0
+  filling-start = record {
+    few = omega arith;
+    long = length-replicate {A = ℕ} sheetSize 0;
+    done = λ k h. absurd (omega arith);
+    small = λ k. omega (arith, zeros sheetSize k);
+  }
+
+  module _ (h : HalfSmall nums) (l : Low replies) (sheet : List ℕ) (k : ℕ) (f : Filling sheet k) (on : k < sheetSize)
+      (x y : ℕ) (p : x ≡ values from (draftAt a k)) (q : y ≡ values also (draftAt a k)) where
+    value : ℕ
+    value = values nums (draftAt a k) + values replies x + values replies y
+
+    is : value ≡ filled nums from also replies (draftAt a k)
+    unfolding value
+    is = rw (p, q)
+
+    pub filling-more : Filling (set sheet k (values nums (draftAt a k) + values replies x + values replies y)) (k + 1)
+    unfolding value
+    filling-more = record {
+      few = omega arith;
+      long = simp length-set (f .long);
+      done = below-more (λ j. values (set sheet k value) j ≡ filled nums from also replies (draftAt a j)) k
+          (λ j r. getD-set-other sheet k j value 0 (λ z. omega arith) ∙ f .done j r)
+          (getD-set-same sheet k value 0 (omega (arith, f .long)) ∙ is);
+      small = set-cases (λ j v. v < 1048576) sheet k value (omega (arith, f .long)) (omega (arith, h (draftAt a k), l x, l y)) (λ j r. f .small j);
+    }
