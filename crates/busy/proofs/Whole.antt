@@ -1,7 +1,6 @@
 -- The load and the crossing test, read of whole paths, are the rules'; a law for each way out. Assumes nothing.
 use mathlib.Core.Path.{_≡_, sym, ap, _∙_}
 use mathlib.Core.Bool.{Bool, true, false}
-use mathlib.Core.List.{map}
 use Prim.Native.Nat.{ℕ, _+_, _-_, _*_, _/_, _≤_, _<_}
 use native.Mathlib.Nat.{div-zero, mul-le-mul, mul-le-mul-left}
 use native.Mathlib.Omega.{arith}
@@ -10,15 +9,16 @@ use borrow.Author.Tests.{le-leb, lt-leb}
 use Rattle.least.specs.Count.{pick, ceil}
 use Rattle.least.specs.Fold.{sumOf, anyOf}
 use Rattle.least.proofs.Count.{ceil-le}
-use Rattle.least.proofs.Fold.{sum-ext, sum-map, any-map}
-use Rattle.rules.specs.Formula.{role, higherOrEqual, crossings, weight, ownWeight, load}
+use Rattle.least.proofs.Fold.{sum-ext, any-map}
+use Rattle.rules.specs.Formula.{role, higherOrEqual, ownWeight, load}
 use Rattle.rules.specs.Judge as rules
-use Rattle.rules.proofs.Shared.{slowest-shared}
+use Rattle.rules.proofs.Path.{visits-member}
 use Rattle.flows.specs.declared.Flow.{Flow}
 use Rattle.flows.specs.declared.Row.{Row}
 use Rattle.flows.specs.Lists.{pathOf, flowOf, held}
 use Rattle.paths.proofs.Loops.{any-here, any-end}
 use Rattle.sums.specs.Whole.{netWith}
+use Rattle.sums.proofs.Shared.{sum-crossings, weight-whole}
 use Rattle.busy.specs.Load.{packetsIn, loadBy, loadOver, strays}
 
 module _ (b t : ℕ) where
@@ -48,12 +48,13 @@ module _ (row : Row) (i : Flow) where
   load-start b x e = ap (λ y. y + sumOf (loadBy b i) (held row)) e
 
   pub load-whole : (lmin lmax b : ℕ) → loadOver row i b ≡ load (netWith row lmin lmax) (flowOf i) b
-  unfolding load loadOver ownWeight weight crossings
+  unfolding load loadOver ownWeight
   load-whole lmin lmax b =
       ap (λ s. packetsIn b i i + s)
       (sum-ext _ _ (held row)
-      (λ j m. ap (λ c. pick (higherOrEqual (role (flowOf i) (flowOf j))) (ceil b (j .period) * c) 0) (sym (slowest-shared (pathOf i) (pathOf i) (λ n v. v) (pathOf j))))
-      ∙ sym (sum-map _ _ (map flowOf (held row)) ∙ sum-map _ flowOf (held row)))
+      (λ j m. ap (λ c. pick (higherOrEqual (role (flowOf i) (flowOf j))) (ceil b (j .period) * c) 0)
+      (sym (weight-whole row i lmin lmax (pathOf i) (λ k q. visits-member q) j)))
+      ∙ sym (sum-crossings row i lmin lmax _))
 
   pub load-made : (b r : ℕ) → r ≡ loadOver row i b → (lmin lmax : ℕ) → r ≡ load (netWith row lmin lmax) (flowOf i) b
   load-made b r e lmin lmax = e ∙ load-whole lmin lmax b

@@ -1,4 +1,4 @@
--- What the busy length and the crossing test take of each flow of a row, read of whole paths: proofs/Row shows that it is what the rules say.
+-- What the busy length and the crossing test take of each flow of a row, read of whole paths: proofs/Whole shows that it is what the rules say.
 use Prim.Native.Nat.{ℕ, _*_, _+_, max, min}
 use mathlib.Core.Bool.{Bool}
 use lib.Dec.{leb}

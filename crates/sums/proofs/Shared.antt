@@ -6,12 +6,12 @@ use Prim.Native.Nat.{ℕ, suc, _+_, _-_, max, min}
 use lib.Dec.{eqb}
 use lib.ListN.{take}
 use Rattle.least.specs.Count.{pick}
-use Rattle.least.specs.Fold.{maxOf, minOf}
-use Rattle.least.proofs.Fold.{sum-ext, max-ext, max-map}
+use Rattle.least.specs.Fold.{sumOf, maxOf, minOf}
+use Rattle.least.proofs.Fold.{sum-ext, sum-map, max-ext, max-map}
 use Rattle.rules.specs.Net.{Hop}
-use Rattle.rules.specs.Formula.{Crossing, both, role, higherOrEqual, lower, visits, before, least, crossings, runsAlong, along, leastCost, M, greatestCost, lowerCost, slowestNode, term4, term5}
+use Rattle.rules.specs.Formula.{Crossing, both, role, higherOrEqual, lower, visits, before, firstOn, lastOn, slowest, weight, least, crossings, runsAlong, along, leastCost, M, greatestCost, lowerCost, slowestNode, term4, term5}
 use Rattle.rules.proofs.Path.{visits-member, visits-hop, before-visits}
-use Rattle.rules.proofs.Shared.{shared, visits-shared, there-shared, first-of-shared, first-on-shared}
+use Rattle.rules.proofs.Shared.{shared, visits-shared, there-shared, slowest-shared, first-of-shared, first-on-shared, last-on-shared}
 use Rattle.flows.specs.declared.Flow.{Flow}
 use Rattle.flows.specs.declared.Row.{Row}
 use Rattle.flows.specs.Lists.{pathOf, flowOf, held}
@@ -38,8 +38,12 @@ pub visits-take : (n : ℕ) (l : List Hop) (k : Hop) → List·Memᴰ k (take n 
 visits-take n l k m = visits-member (member-take n l m)
 
 module _ (row : Row) (i : Flow) (lmin lmax : ℕ) where
-  abbrev crossing : Flow → Crossing
+  abbrev pub crossing : Flow → Crossing
   crossing j = record { flow = flowOf j; part = shared (pathOf i) (pathOf j) }
+
+  pub sum-crossings : (f : Crossing → ℕ) → sumOf f (crossings (netWith row lmin lmax) (flowOf i)) ≡ sumOf (λ j. f (crossing j)) (held row)
+  unfolding crossings
+  sum-crossings f = sum-map f _ (map flowOf (held row)) ∙ sum-map _ flowOf (held row)
 
   max-crossings : (f : Crossing → ℕ) → maxOf f (crossings (netWith row lmin lmax) (flowOf i)) ≡ maxOf (λ j. f (crossing j)) (held row)
   unfolding crossings
@@ -54,11 +58,23 @@ module _ (row : Row) (i : Flow) (lmin lmax : ℕ) where
     within : (n : ℕ) → visits P n ≡ true → visits (pathOf i) n ≡ true
     within n v = let r = visits-hop P n v in sym (ap (visits (pathOf i)) (r .2)) ∙ on (r .0) (r .1)
 
-    along-whole : (j : Flow) → along (flowOf i) P (crossing j) ≡ alongOn i P j
+    pub weight-whole : (j : Flow) → weight P (crossing j) ≡ slowest P (pathOf j)
+    unfolding weight
+    weight-whole j = slowest-shared (pathOf i) P within (pathOf j)
+
+    pub first-whole : (j : Flow) → firstOn P (crossing j .part) ≡ firstOn P (pathOf j)
+    first-whole j = first-on-shared (pathOf i) P (pathOf j) on
+
+    pub first-of-whole : (j : Flow) → firstOn (crossing j .part) P ≡ firstOn (pathOf j) P
+    first-of-whole j = first-of-shared (pathOf i) P within (pathOf j)
+
+    pub last-whole : (h : ℕ) (j : Flow) → lastOn h P (crossing j .part) ≡ lastOn h P (pathOf j)
+    last-whole h j = last-on-shared (pathOf i) P (pathOf j) h on
+
+    pub along-whole : (j : Flow) → along (flowOf i) P (crossing j) ≡ alongOn i P j
     unfolding along runsAlong
     along-whole j =
-        ap₂ (λ a b. both (higherOrEqual (role (flowOf i) (flowOf j))) (eqb a b))
-        (first-of-shared (pathOf i) P within (pathOf j)) (first-on-shared (pathOf i) P (pathOf j) on)
+        ap₂ (λ a b. both (higherOrEqual (role (flowOf i) (flowOf j))) (eqb a b)) (first-of-whole j) (first-whole j)
 
     greatest-whole : (k : Hop) → List·Memᴰ k P → greatestCost (netWith row lmin lmax) (flowOf i) P k ≡ greatestOver row i P k
     unfolding greatestCost greatestOver

@@ -146,7 +146,7 @@ fn lower_by(i: Flow, node: u8, j: Flow) -> u64
 }
 
 // The greatest lower cost at a node, less 1.
-fn lower_cost(row: Row, i: Flow, node: u8) -> u64
+fn lower_less_one(row: Row, i: Flow, node: u8) -> u64
     ensures { λ r. ⌜ r ≡ lowerOver row i node - 1 ⌝ }
     ensures { λ r. ⌜ r ≤ 65535 ⌝ }
 {
@@ -168,7 +168,7 @@ fn term5_on(row: Row, i: Flow, p: Flow) -> u64
     let mut sum: u64 = 0;
     let mut k: usize = 0;
     while k < n {
-        sum += lower_cost(row, i, paths::node_at(p, k));
+        sum += lower_less_one(row, i, paths::node_at(p, k));
         k += 1;
     }
     sum

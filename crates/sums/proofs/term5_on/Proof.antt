@@ -27,8 +27,8 @@ loop-holds c = (search needs, search needs, omega arith)
 node-at-requires : tie.Need-node-at-requires Inv-loop μ-loop
 node-at-requires c κs = search needs
 
-lower-cost-requires : tie.Need-lower-cost-requires Inv-loop μ-loop
-lower-cost-requires c κs = search needs
+lower-less-one-requires : tie.Need-lower-less-one-requires Inv-loop μ-loop
+lower-less-one-requires c κs = search needs
 
 add-sum : tie.Need-add-sum Inv-loop μ-loop
 add-sum c = search needs
@@ -54,7 +54,7 @@ term5-on-spec =
     path-end-requires
     loop-holds
     node-at-requires
-    lower-cost-requires
+    lower-less-one-requires
     add-sum
     add-k
     loop-less

@@ -7,8 +7,8 @@ use Rattle.sums.specs.Whole.{lowerBy, lowerOver}
 use Rattle.paths.proofs.Loops.{max-more}
 use Rattle.flows.specs.Lists.{held}
 use Rattle.least.specs.Fold.{maxOf}
-use Rattle.sums.proofs.lower_cost.Statement.{statement}
-use Rattle.sums.proofs.lower_cost.Tie as tie
+use Rattle.sums.proofs.lower_less_one.Statement.{statement}
+use Rattle.sums.proofs.lower_less_one.Tie as tie
 
 abbrev Inv-loop : tie.InvT-loop
 Inv-loop row i node n most₀ at₀ most at = (1 ≤ most) × (most ≤ 65535) × (max most (maxOf (lowerBy i node) (drop at (held row))) ≡ max 1 (lowerOver row i node))
@@ -47,8 +47,8 @@ sub-result c = search needs
 returns : tie.Need-returns Inv-loop μ-loop
 returns c = (search less-one, search needs)
 
-pub lower-cost-spec : {M : Type 1} → statement M
-lower-cost-spec =
+pub lower-less-one-spec : {M : Type 1} → statement M
+lower-less-one-spec =
     tie.close
     (tie.spec
     Inv-loop
