@@ -16,7 +16,7 @@ use Rattle.flows.specs.declared.Flow.{Flow}
 use Rattle.flows.specs.Lists.{mostNodes, hopsOf, pathOf}
 use Rattle.flows.proofs.Arrays.{nowhere, length-hops, path-at}
 use Rattle.paths.specs.Paths.{hopAt, cut}
-use Rattle.paths.proofs.Loops.{drop-next, drop-past, sum-more}
+use Rattle.paths.proofs.Loops.{drop-next, drop-past, sum-place}
 
 module _ (f : Flow) (nodes : length (f .nodes) ≡ mostNodes) (costs : length (f .costs) ≡ mostNodes) (k : ℕ) (h : k < length (pathOf f)) where
   pub place-fits : k < mostNodes
@@ -115,4 +115,4 @@ module _ (h : ℕ) where
     pub smin-more : (lmin x sum e : ℕ) → sum + sumOf (λ q. least q + lmin) (drop k (before h l)) ≡ e → x ≡ getD l k nowhere .cost →
         sum + (x + lmin) + sumOf (λ q. least q + lmin) (drop (k + 1) (before h l)) ≡ e
     smin-more lmin x sum e inv q =
-        sum-more (λ q. least q + lmin) (before h l) n k len e sum inv nowhere (x + lmin) i (ap (λ c. c + lmin) (q ∙ sym (ap (λ (q : Hop). q .cost) before-at)))
+        sum-place (λ q. least q + lmin) (before h l) n k len e sum inv nowhere (x + lmin) i (ap (λ c. c + lmin) (q ∙ sym (ap (λ (q : Hop). q .cost) before-at)))

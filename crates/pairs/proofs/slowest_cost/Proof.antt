@@ -3,7 +3,7 @@ use mathlib.Core.Path.{_≡_}
 use native.Mathlib.Omega.{arith}
 use lib.ListN.{drop}
 use borrow.Author.Needs.{needs}
-use Rattle.paths.proofs.Loops.{max-more, max-end}
+use Rattle.paths.proofs.Loops.{max-place, max-end}
 use Rattle.flows.specs.Lists.{pathOf}
 use Rattle.rules.specs.Formula.{visits, slowest}
 use Rattle.least.specs.Fold.{maxOf, only}
@@ -36,7 +36,7 @@ loop-less : tie.Need-loop-less Inv-loop μ-loop
 loop-less c = search needs
 
 loop-again : tie.Need-loop-again Inv-loop μ-loop
-loop-again c = (search needs, search max-more)
+loop-again c = (search needs, search max-place)
 
 returns : tie.Need-returns Inv-loop μ-loop
 returns c = (search max-end, search needs)

@@ -4,7 +4,7 @@ use native.Mathlib.Omega.{arith}
 use lib.ListN.{drop}
 use lib.Dec.{eqb}
 use borrow.Author.Needs.{needs}
-use Rattle.paths.proofs.Loops.{max-more, max-end}
+use Rattle.paths.proofs.Loops.{max-place, max-end}
 use Rattle.flows.specs.Lists.{pathOf}
 use Rattle.rules.specs.Formula.{there, costAt}
 use Rattle.least.specs.Fold.{maxOf, only}
@@ -37,7 +37,7 @@ loop-less : tie.Need-loop-less Inv-loop μ-loop
 loop-less c = search needs
 
 loop-again : tie.Need-loop-again Inv-loop μ-loop
-loop-again c = (search needs, search max-more)
+loop-again c = (search needs, search max-place)
 
 returns : tie.Need-returns Inv-loop μ-loop
 returns c = (search max-end, search needs)

@@ -1,0 +1,19 @@
+use borrow.Author.Needs.{needs}
+use Rattle.sums.proofs.Turns.{pick-fails, pick-holds}
+use Rattle.sums.proofs.greatest_by.Statement.{statement}
+use Rattle.sums.proofs.greatest_by.Tie as tie
+
+along-requires : tie.Need-along-requires
+along-requires c κs = search needs
+
+returns : tie.Need-returns
+returns c = (search pick-fails, search needs)
+
+cost-at-requires : tie.Need-cost-at-requires
+cost-at-requires c κs = search needs
+
+returns-2 : tie.Need-returns-2
+returns-2 c = (search pick-holds, search needs)
+
+pub greatest-by-spec : {M : Type 1} → statement M
+greatest-by-spec = tie.close (tie.spec along-requires returns cost-at-requires returns-2)
