@@ -51,5 +51,5 @@ module _ (nums from also replies : List ℕ) (a : ℕ) where
       done = below-more (λ j. values (set sheet k value) j ≡ filled nums from also replies (draftAt a j)) k
           (λ j r. getD-set-other sheet k j value 0 (λ z. omega arith) ∙ f .done j r)
           (getD-set-same sheet k value 0 (omega (arith, f .long)) ∙ is);
-      small = set-cases (λ j v. v < 1048576) sheet k value (omega (arith, f .long)) (omega (arith, h (draftAt a k), l x, l y)) (λ j r. f .small j);
+      small = set-cases (λ j v. v < 16777216) sheet k value (omega (arith, f .long)) (omega (arith, h (draftAt a k), l x, l y)) (λ j r. f .small j);
     }

@@ -145,4 +145,4 @@ FilledUpTo nums from also replies a n sheet = (k : ℕ) → k < n → values she
 
 -- so small that two response bounds more are still small
 abbrev pub HalfSmall : List ℕ → Type 0
-HalfSmall l = (k : ℕ) → values l k < 524288
+HalfSmall l = (k : ℕ) → values l k < 8388608

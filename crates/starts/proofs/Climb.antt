@@ -41,11 +41,11 @@ module _ (s₀ s : List ℕ) (kept : Kept s₀ s) (w : ℕ) where
           getD-set-other s hereSlot k w 0 (eqb-false k hereSlot e) ∙ kept .same k (eqb-false k hereSlot e) ∙ ap (values s₀) (eqb-true k instantSlot q)
       go false e false q = getD-set-other s hereSlot k w 0 (eqb-false k hereSlot e) ∙ kept .same k (eqb-false k hereSlot e)
 
-  pub slots-small : Small s₀ → w < 1048576 → Small (set s hereSlot w)
+  pub slots-small : Small s₀ → w < 16777216 → Small (set s hereSlot w)
   slots-small h q k = go (eqb k hereSlot) refl
     where
-      go : (a : Bool) → eqb k hereSlot ≡ a → values (set s hereSlot w) k < 1048576
-      go true e = subst (λ j. values (set s hereSlot w) j < 1048576) (sym (eqb-true k hereSlot e)) (omega (arith, getD-set-same s hereSlot w 0 (omega (arith, kept .long))))
+      go : (a : Bool) → eqb k hereSlot ≡ a → values (set s hereSlot w) k < 16777216
+      go true e = subst (λ j. values (set s hereSlot w) j < 16777216) (sym (eqb-true k hereSlot e)) (omega (arith, getD-set-same s hereSlot w 0 (omega (arith, kept .long))))
       go false e = omega (arith, getD-set-other s hereSlot k w 0 (eqb-false k hereSlot e), kept .same k (eqb-false k hereSlot e), h k)
 
   pub slots-sum : (e : List ℕ) (n p : ℕ) → sheetSum e p n (values (set s hereSlot w)) ≡ sums e n (values s₀ instantSlot) p (values s₀) w

@@ -54,7 +54,7 @@ module _ (e : List ℕ) (n m u : ℕ) (most : m ≤ mostNodes) where
     long = simp length-set long;
     wide = wide;
     time = getD-set-same slots instantSlot u 0 (omega arith);
-    small = set-cases (λ j v. v < 1048576) slots instantSlot u (omega arith) (omega arith) (λ j h. small j);
+    small = set-cases (λ j v. v < 16777216) slots instantSlot u (omega arith) (omega arith) (λ j h. small j);
     low = low;
     passed = λ W fit starts first. record {
       found = λ k h. absurd (omega arith);
@@ -146,7 +146,7 @@ module _ (e : List ℕ) (n m u : ℕ) (most : m ≤ mostNodes) where
         long = simp length-set (going .long);
         wide = simp length-set (going .wide);
         time = getD-set-other slots p instantSlot w 0 (λ z. omega arith) ∙ going .time;
-        small = set-cases (λ j v. v < 1048576) slots p w (omega (arith, going .long)) (omega (arith, within)) (λ j h. going .small j);
+        small = set-cases (λ j v. v < 16777216) slots p w (omega (arith, going .long)) (omega (arith, within)) (λ j h. going .small j);
         low = set-cases (λ j v. v ≤ mostTime) best p b (omega (arith, going .wide)) (omega (arith, within, going .low p)) (λ j h. going .low j);
         passed = passed;
       }

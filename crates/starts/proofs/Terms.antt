@@ -53,5 +53,5 @@ module _ (e : List ℕ) (p : ℕ) (v : ℕ → ℕ) where
       h ∙ ap (λ m. values e (p * blockSize) + sumTo m (λ j. termOf e v (p * blockSize + 2 + j * entrySize))) q
 
 -- what a term is at most
-pub term-small : (r x y w : ℕ) → r ≤ x + y + 1 → x < 1048576 → y < 1048576 → w < 1048576 → r * w < 4398046511104
-term-small r x y w h a b c = omega (arith, mul-le-mul {n₁ = r} {m₁ = w} {n₂ = 2097151} {m₂ = 1048575} (omega arith) (omega arith))
+pub term-small : (r x y w : ℕ) → r ≤ x + y + 1 → x < 16777216 → y < 16777216 → w < 16777216 → r * w < 562949953421312
+term-small r x y w h a b c = omega (arith, mul-le-mul {n₁ = r} {m₁ = w} {n₂ = 33554431} {m₂ = 16777215} (omega arith) (omega arith))

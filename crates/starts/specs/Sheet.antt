@@ -60,7 +60,7 @@ added e p = values e (p * blockSize + 1)
 
 -- so small that no sum is cut
 abbrev pub Small : List ℕ → Type 0
-Small l = (k : ℕ) → values l k < 1048576
+Small l = (k : ℕ) → values l k < 16777216
 
 -- a sheet, and the values that its counts look at
 pub record Read (e v : List ℕ) : Type 0 where

@@ -28,7 +28,7 @@ pub const INSTANT: usize = 9;
 pub const HORIZON: u64 = 65535;
 
 fn count_of(a: u64, b: u64, t: u64) -> u64
-    requires { ⌜ a < 4194304 ⌝ }
+    requires { ⌜ a < 67108864 ⌝ }
     ensures { λ r. ⌜ r ≡ count a b t ⌝ }
     ensures { λ r. ⌜ r ≤ a + 1 ⌝ }
 {
@@ -45,7 +45,7 @@ fn count_of(a: u64, b: u64, t: u64) -> u64
 fn term(e: &[u64; SHEET], v: &[u64; SLOTS], k: usize) -> u64
     requires { ⌜ (k + entrySize ≤ sheetSize) × Read (now e) (now v) ⌝ }
     ensures { λ r. ⌜ r ≡ termOf (now (e .entry)) (values (now (v .entry))) k ⌝ }
-    ensures { λ r. ⌜ r < 4398046511104 ⌝ }
+    ensures { λ r. ⌜ r < 562949953421312 ⌝ }
 {
     let weight = e[k + 4];
     if weight == 0 {
@@ -62,7 +62,7 @@ fn term(e: &[u64; SHEET], v: &[u64; SLOTS], k: usize) -> u64
 fn sum_at(e: &[u64; SHEET], v: &[u64; SLOTS], p: usize, n: usize) -> u64
     requires { ⌜ (p < mostNodes) × (n ≤ mostFlows) × Read (now e) (now v) ⌝ }
     ensures { λ r. ⌜ r ≡ sheetSum (now (e .entry)) p n (values (now (v .entry))) ⌝ }
-    ensures { λ r. ⌜ r < 70370000000000 ⌝ }
+    ensures { λ r. ⌜ r < 9007200000000000 ⌝ }
 {
     let at = p * BLOCK;
     let mut sum = e[at];
@@ -82,7 +82,7 @@ pub enum Begin {
 
 // The starting time at node p, upwards from a value that is not above it.
 fn start_at(e: &[u64; SHEET], v: [u64; SLOTS], p: usize, n: usize, from: u64) -> Begin
-    requires { ⌜ (p < mostNodes) × (n ≤ mostFlows) × Read (now e) v × (values v instantSlot ≤ mostTime) × (from < 1048576) ⌝ }
+    requires { ⌜ (p < mostNodes) × (n ≤ mostFlows) × Read (now e) v × (values v instantSlot ≤ mostTime) × (from < 16777216) ⌝ }
     ensures { λ r. ⌜ (Fit (now (e .entry)) n (p + 1) → Under (sums (now (e .entry)) n (values v instantSlot) p (values v)) from → BeginIs (now (e .entry)) n (values v instantSlot) p (values v) r) ⌝ }
     ensures { λ r. ⌜ BeginFits (now (e .entry)) (values v instantSlot) p r ⌝ }
 {

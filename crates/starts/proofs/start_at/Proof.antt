@@ -11,7 +11,7 @@ use Rattle.starts.proofs.start_at.Lts as lts
 use Rattle.starts.proofs.sum_at.Reads as sum-at-reads
 
 abbrev Inv-loop : tie.InvT-loop
-Inv-loop e p n from add last slots₀ w₀ slots w = (add ≡ added e p) × (last ≡ mostTime + values slots₀ instantSlot) × Kept slots₀ slots × Climbs e n p slots₀ from w × (w < 70370000000000) × Small slots₀
+Inv-loop e p n from add last slots₀ w₀ slots w = (add ≡ added e p) × (last ≡ mostTime + values slots₀ instantSlot) × Kept slots₀ slots × Climbs e n p slots₀ from w × (w < 9007200000000000) × Small slots₀
 
 abbrev μ-loop : tie.MeasureT-loop
 μ-loop e p n from add last slots₀ w₀ slots w = last + 1 - w

@@ -11,7 +11,7 @@ use Rattle.starts.proofs.sum_at.Lts as lts
 use Rattle.starts.proofs.term.Reads as term-reads
 
 abbrev Inv-loop : tie.InvT-loop
-Inv-loop e v p n at sum₀ j₀ sum j = (j ≤ n) × (at ≡ p * blockSize) × (sum ≡ partial e p (values v) j) × (sum < 1048576 + 4398046511104 * j)
+Inv-loop e v p n at sum₀ j₀ sum j = (j ≤ n) × (at ≡ p * blockSize) × (sum ≡ partial e p (values v) j) × (sum < 16777216 + 562949953421312 * j)
 
 abbrev μ-loop : tie.MeasureT-loop
 μ-loop e v p n at sum₀ j₀ sum j = n - j
