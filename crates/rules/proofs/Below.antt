@@ -73,7 +73,7 @@ module _ (N N′ : Net) (i i′ : Flow) (b : Beneath N N′ i i′) where
       (p .greatest) (q .greatest)
 
 -- arrival bounds follow the response bounds
-arriving-le : {m m′ : ℕ} → m ≤ m′ → (R R′ : ℕ → ℕ) (l : List Hop) → ((k : Hop) → List·Memᴰ k l → R (k .node) ≤ R′ (k .node)) →
+pub arriving-le : {m m′ : ℕ} → m ≤ m′ → (R R′ : ℕ → ℕ) (l : List Hop) → ((k : Hop) → List·Memᴰ k l → R (k .node) ≤ R′ (k .node)) →
     (a a′ : ℕ) → a ≤ a′ → (h : ℕ) → arriving m R a l h ≤ arriving m′ R′ a′ l h
 unfolding arriving
 arriving-le hm R R′ [] q a a′ ha h = le-refl _
