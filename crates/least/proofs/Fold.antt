@@ -160,6 +160,19 @@ unfolding sumTo
 sum-to-le zero f g h = omega arith
 sum-to-le (suc n) f g h = omega (arith, h n (omega arith), sum-to-le n f g (λ j l. h j (omega arith)))
 
+pub sum-to-bound : (n : ℕ) (f : ℕ → ℕ) (k : ℕ) → ((j : ℕ) → j < n → f j ≤ k) → sumTo n f ≤ n * k
+unfolding sumTo
+sum-to-bound zero f k h = omega arith
+sum-to-bound (suc n) f k h = omega (arith, h n (omega arith), sum-to-bound n f k (λ j l. h j (omega arith)))
+
+pub sum-to-lt : (n a : ℕ) (f g : ℕ → ℕ) → a < n → ((j : ℕ) → j < n → f j ≤ g j) → f a < g a → sumTo n f < sumTo n g
+unfolding sumTo
+sum-to-lt zero a f g l h q = absurd (omega arith)
+sum-to-lt (suc n) a f g l h q = elim (le-or-lt n a) [
+  | inl r ↦ (let e : a ≡ n = omega arith in omega (arith, ap f e, ap g e, sum-to-le n f g (λ j t. h j (omega arith))))
+  | inr r ↦ omega (arith, h n (omega arith), sum-to-lt n a f g r (λ j t. h j (omega arith)) q)
+]
+
 pub sum-to-add : (n : ℕ) (f g : ℕ → ℕ) → sumTo n (λ j. f j + g j) ≡ sumTo n f + sumTo n g
 unfolding sumTo
 sum-to-add zero f g = refl

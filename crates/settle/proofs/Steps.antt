@@ -2,8 +2,8 @@
 use mathlib.Core.Path.{_≡_, refl, sym, ap, ap₂, _∙_, subst}
 use mathlib.Core.Bool.{Bool, true, false}
 use mathlib.Core.Logic.{_⊎_, inl, inr}
-use mathlib.Core.List.{List, [], _∷_, List·Memᴰ, List·Memᴰ·head, List·Memᴰ·tail}
-use Prim.Native.Nat.{ℕ, zero, suc, _+_, _-_, _*_, _≤_, _<_, zero-le}
+use mathlib.Core.List.{List, List·Memᴰ, List·Memᴰ·head, List·Memᴰ·tail}
+use Prim.Native.Nat.{ℕ, zero, suc, _+_, _*_, _≤_, _<_}
 use native.Mathlib.Omega.{arith}
 use native.Mathlib.Nat.{le-refl, le-trans, le-of-eq}
 use lib.Dec.{eqb}
@@ -11,22 +11,22 @@ use lib.ListN.{length, getD}
 use borrow.Author.Tests.{eqb-true, eqb-false}
 use Rattle.least.specs.Count.{pick}
 use Rattle.least.proofs.Fold.{max-ext}
-use Rattle.least.specs.Vector.{_⊑_, Underᵛ, Leastᵛ}
+use Rattle.least.specs.Vector.{_⊑_}
 use Rattle.least.proofs.Vector.{underᵛ-between, underᵛ-done}
-use Rattle.rules.specs.Net.{Hop, Flow, Net}
+use Rattle.rules.specs.Net.{Flow, Net}
 use Rattle.rules.specs.Formula.{horizon, Key, Arrivals, arriving, arrivals}
-use Rattle.rules.specs.Meaning.{On, Here, Settled, LeastSettled}
+use Rattle.rules.specs.Meaning.{On, Here, Settled}
 use Rattle.rules.specs.Valid.{Valid}
 use Rattle.rules.specs.Judge.{response}
 use Rattle.rules.proofs.Busy.{Ready}
 use Rattle.rules.proofs.Below.{arriving-le, arrivals-le, next}
 use Rattle.rules.proofs.Path.{visits-member}
 use Rattle.rules.proofs.Settle.{next-rising, responses-rise, past-none, rest-least}
-use Rattle.rules.proofs.Agree.{Agree, response-agree}
+use Rattle.rules.proofs.Agree.{response-agree}
 use Rattle.paths.specs.Paths.{positionOf}
 use Rattle.paths.proofs.Places.{visits-at, position-below, position-node, position-at}
 use Rattle.starts.specs.Sheet.{mostNodes, values}
-use Rattle.sheets.specs.Fields.{noFlow, flowAt, nodeAt, placeIn, responsesIn}
+use Rattle.sheets.specs.Fields.{noFlow, flowAt, nodeAt, responsesIn}
 use Rattle.sheets.specs.Setup.{Unread}
 use Rattle.sheets.proofs.Places.{flow-here, place-at}
 use Rattle.settle.specs.Good.{arrivalsIn, held, due, Good, Rests}

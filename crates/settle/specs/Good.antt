@@ -5,16 +5,13 @@ use mathlib.Core.List.{List}
 use Prim.Native.Nat.{ℕ, _+_, _*_, _≤_, _<_}
 use lib.ListN.{length}
 use Rattle.least.specs.Vector.{Underᵛ}
-use Rattle.rules.specs.Net.{Flow, Net}
-use Rattle.rules.specs.Formula.{horizon, Arrivals, arrivals}
-use Rattle.rules.specs.Meaning.{Here, Settled, LeastSettled}
-use Rattle.rules.specs.Valid.{Valid}
+use Rattle.rules.specs.Net.{Net}
+use Rattle.rules.specs.Formula.{Arrivals, arrivals}
+use Rattle.rules.specs.Meaning.{Settled, LeastSettled}
 use Rattle.rules.specs.Judge.{response}
-use Rattle.rules.proofs.Busy.{Ready}
 use Rattle.rules.proofs.Below.{next}
 use Rattle.starts.specs.Sheet.{mostNodes, values}
 use Rattle.sheets.specs.Fields.{flowAt, nodeAt, responsesIn}
-use Rattle.sheets.specs.Setup.{Setup}
 
 -- the arrival bounds that response bounds give
 abbrev pub arrivalsIn : Net → List ℕ → Arrivals

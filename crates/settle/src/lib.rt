@@ -1,1 +1,196 @@
 // The least settled arrival bounds: response bounds raised from zero, flow by flow, until each is up to date.
+use sheets::DRAFT;
+use sheets::PLACES;
+use starts::NODES;
+ghost use mathlib.Core.Path.{_≡_};
+ghost use Prim.Native.Nat.{_+_, _*_, _<_, _≤_};
+ghost use lib.ListN.{length};
+ghost use Rattle.starts.specs.Sheet.{mostFlows, mostNodes, values};
+ghost use Rattle.starts.specs.Runs.{Low};
+ghost use Rattle.sheets.specs.Fields.{HalfSmall};
+ghost use Rattle.settle.specs.Turns.{RaisedIs, Flags, MarkedIs, ChosenIs, Short, Fair, TurnIs, SettleIs};
+
+pub const FLOWS: usize = 16;
+
+// Response bounds after a flow's were raised, and whether one rose: 0 or 1.
+pub struct Raised {
+    pub replies: [u64; PLACES],
+    pub rose: u64,
+}
+
+fn above(a: u64, b: u64) -> u64
+    ensures { λ r. ⌜ (b ≤ a → r ≡ 0) × (a < b → r ≡ 1) × (r ≤ 1) ⌝ }
+{
+    if a < b {
+        return 1;
+    }
+    0
+}
+
+// The response bounds of flow a, at its first m nodes, raised to best.
+fn raise(replies: [u64; PLACES], best: [u64; NODES], a: usize, m: usize) -> Raised
+    requires { ⌜ (a < mostFlows) × (m ≤ mostNodes) × Low replies × Low best ⌝ }
+    ensures { λ r. ⌜ RaisedIs replies best a m (r .replies) (r .rose) ⌝ }
+{
+    let mut to = replies;
+    let mut rose: u64 = 0;
+    let mut k: usize = 0;
+    while k < m {
+        let at = a * NODES + k;
+        let was = to[at];
+        let now = best[k];
+        rose = starts::larger(rose, above(was, now));
+        to[at] = starts::larger(was, now);
+        k += 1;
+    }
+    Raised { replies: to, rose }
+}
+
+fn marked(mark: u64, read: u64) -> u64
+    ensures { λ r. ⌜ (read ≡ 0 → r ≡ mark) × ((read ≡ 0 → ⊥) → r ≡ 1) ⌝ }
+{
+    if read == 0 {
+        return mark;
+    }
+    1
+}
+
+// A mark for each flow that reads flow a.
+fn mark(marks: [u64; FLOWS], reads: &[u64; PLACES], a: usize) -> [u64; FLOWS]
+    requires { ⌜ (a < mostFlows) × Flags marks ⌝ }
+    ensures { λ r. ⌜ MarkedIs marks (now (reads .entry)) a mostFlows r ⌝ }
+{
+    let mut to = marks;
+    let mut b: usize = 0;
+    while b < FLOWS {
+        let was = to[b];
+        let read = reads[b * FLOWS + a];
+        to[b] = marked(was, read);
+        b += 1;
+    }
+    to
+}
+
+// Flow b, if it is marked and more urgent than the one chosen; n stands for none.
+fn prefer<'a>(
+    marks: &'a [u64; FLOWS],
+    priorities: &'a [u64; FLOWS],
+    chosen: usize,
+    b: usize,
+    n: usize,
+) -> usize
+    requires { ⌜ (b < n) × (n ≤ mostFlows) ⌝ }
+    ensures { λ r. ⌜ (ChosenIs (now (marks .entry)) n b chosen → ChosenIs (now (marks .entry)) n (b + 1) r) ⌝ }
+{
+    if marks[b] == 0 {
+        return chosen;
+    }
+    if n <= chosen {
+        return b;
+    }
+    if priorities[chosen] < priorities[b] {
+        return b;
+    }
+    chosen
+}
+
+// A marked flow of greatest priority; n if none is marked.
+fn choose<'a>(marks: &'a [u64; FLOWS], priorities: &'a [u64; FLOWS], n: usize) -> usize
+    requires { ⌜ n ≤ mostFlows ⌝ }
+    ensures { λ r. ⌜ ChosenIs (now (marks .entry)) n n r ⌝ }
+{
+    let mut chosen = n;
+    let mut b: usize = 0;
+    while b < n {
+        chosen = prefer(marks, priorities, chosen, b, n);
+        b += 1;
+    }
+    chosen
+}
+
+// Response bounds so far, the flows that are not up to date, and whether one passed the horizon.
+pub struct State {
+    pub replies: [u64; PLACES],
+    pub marks: [u64; FLOWS],
+    pub past: bool,
+}
+
+// The response bounds of flow a worked out again, with those so far.
+fn turn<'a>(
+    nums: &'a [u64; DRAFT],
+    from: &'a [u8; DRAFT],
+    also: &'a [u8; DRAFT],
+    lengths: &'a [u64; FLOWS],
+    busies: &'a [u64; FLOWS],
+    reads: &'a [u64; PLACES],
+    n: usize,
+    state: State,
+    a: usize,
+) -> State
+    requires { ⌜ (a < n) × (n ≤ mostFlows) × HalfSmall (now nums) × Short (now lengths) × Low (now busies) × Fair (state .replies) (state .marks) ⌝ }
+    ensures { λ r. ⌜ TurnIs (now (nums .entry)) (now (from .entry)) (now (also .entry)) (now (lengths .entry)) (now (busies .entry)) (now (reads .entry)) n (state .replies) (state .marks) a (r .past) (r .replies) (r .marks) ⌝ }
+    ensures { λ r. ⌜ Fair (r .replies) (r .marks) ⌝ }
+{
+    let mut marks = state.marks;
+    marks[a] = 0;
+    let replies = state.replies;
+    let sheet = sheets::fill(nums, from, also, &replies, a);
+    let m = lengths[a] as usize;
+    let run = starts::responses(&sheet, n, m, busies[a]);
+    if run.past {
+        return State {
+            replies,
+            marks,
+            past: true,
+        };
+    }
+    let best = run.best;
+    let raised = raise(replies, best, a, m);
+    if raised.rose == 0 {
+        return State {
+            replies,
+            marks,
+            past: false,
+        };
+    }
+    let risen = raised.replies;
+    let again = mark(marks, reads, a);
+    State {
+        replies: risen,
+        marks: again,
+        past: false,
+    }
+}
+
+// The response bounds with the least settled arrival bounds; past, where there are none.
+pub fn settle<'a>(
+    nums: &'a [u64; DRAFT],
+    from: &'a [u8; DRAFT],
+    also: &'a [u8; DRAFT],
+    lengths: &'a [u64; FLOWS],
+    busies: &'a [u64; FLOWS],
+    priorities: &'a [u64; FLOWS],
+    reads: &'a [u64; PLACES],
+    n: usize,
+) -> State
+    requires { ⌜ (n ≤ mostFlows) × HalfSmall (now nums) × Short (now lengths) × Low (now busies) ⌝ }
+    ensures { λ r. ⌜ SettleIs (now (nums .entry)) (now (from .entry)) (now (also .entry)) (now (lengths .entry)) (now (busies .entry)) (now (reads .entry)) n (r .past) (r .replies) ⌝ }
+    ensures { λ r. ⌜ Low (r .replies) ⌝ }
+{
+    let mut state = State {
+        replies: [0u64; PLACES],
+        marks: [1u64; FLOWS],
+        past: false,
+    };
+    let first = state.marks;
+    let mut a = choose(&first, priorities, n);
+    while a < n {
+        state = turn(nums, from, also, lengths, busies, reads, n, state, a);
+        if state.past {
+            return state;
+        }
+        let marks = state.marks;
+        a = choose(&marks, priorities, n);
+    }
+    state
+}

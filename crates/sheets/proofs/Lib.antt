@@ -2,3 +2,4 @@ pub mod Places
 pub mod Link
 pub mod Whole
 pub mod Filling
+pub mod Drafted

@@ -2,12 +2,12 @@
 use mathlib.Core.Path.{_≡_, refl, sym, ap, ap₂, _∙_, subst}
 use mathlib.Core.Bool.{Bool, true, false}
 use mathlib.Core.Logic.{_⊎_, inl, inr}
-use mathlib.Core.List.{List, [], _∷_, List·Memᴰ, List·Memᴰ·head, List·Memᴰ·tail}
-use Prim.Native.Nat.{ℕ, zero, suc, _+_, _-_, _*_, _%_, _≤_, _<_}
+use mathlib.Core.List.{List, [], _∷_, List·Memᴰ}
+use Prim.Native.Nat.{ℕ, _+_, _*_, _%_, _≤_, _<_}
 use native.Mathlib.Omega.{arith}
 use native.Mathlib.Nat.{add-zero, mul-zero}
 use lib.Dec.{ltb, eqb}
-use lib.ListN.{length, getD}
+use lib.ListN.{length}
 use borrow.Author.Tests.{eq-eqb, eqb-true, eqb-false, ne-eqb}
 use Rattle.least.specs.Count.{pick, count}
 use Rattle.least.specs.Fold.{sumTo, sumOf, anyOf}
@@ -20,7 +20,7 @@ use Rattle.rules.proofs.Path.{prefix-visits, visits-here, visits-there, visits-
 use Rattle.rules.proofs.Shared.{shared, slowest-shared, first-of-shared, first-on-shared, last-on-shared, uncrossed-nothing}
 use Rattle.paths.specs.Paths.{positionOf}
 use Rattle.starts.specs.Sheet.{mostNodes, hereSlot, instantSlot, values, termOf, seen}
-use Rattle.sheets.specs.Fields.{noFlow, flowAt, nodeAt, noPlace, lag, source, lookOf, plusOf, lessOf, weightOf, fromOf, alsoOf, EntryIs, placeIn, responsesIn}
+use Rattle.sheets.specs.Fields.{noFlow, flowAt, noPlace, lag, source, lookOf, plusOf, lessOf, weightOf, fromOf, alsoOf, EntryIs, placeIn, responsesIn}
 use Rattle.sheets.proofs.Places.{flow-here, place-at, one-flow, arrival-is}
 
 -- flows that meet: the first node of one on the other is on both

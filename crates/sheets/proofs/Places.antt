@@ -1,7 +1,7 @@
 -- Places of flows and nodes, and what arrival bounds are by place. Assumes nothing.
-use mathlib.Core.Path.{_≡_, refl, sym, ap, ap₂, _∙_, subst}
+use mathlib.Core.Path.{_≡_, refl, sym, ap, _∙_, subst}
 use mathlib.Core.Bool.{Bool, true, false}
-use mathlib.Core.Logic.{_⊎_, inl, inr}
+use mathlib.Core.Logic.{inl, inr}
 use mathlib.Core.List.{List, [], _∷_, List·Memᴰ, List·Memᴰ·head, List·Memᴰ·tail}
 use Prim.Native.Nat.{ℕ, zero, suc, _+_, _-_, _*_, _≤_, _<_}
 use native.Mathlib.Omega.{arith}
@@ -10,16 +10,16 @@ use lib.Dec.{eqb}
 use lib.ListN.{length, getD}
 use borrow.Author.Tests.{eq-eqb, eqb-true, eqb-false, ne-eqb}
 use Rattle.least.specs.Count.{pick}
-use Rattle.least.specs.Fold.{maxOf, only}
+use Rattle.least.specs.Fold.{maxOf}
 use Rattle.least.proofs.Fold.{false-true, max-at, max-under}
 use Rattle.rules.specs.Net.{Hop, Flow, Net}
 use Rattle.rules.specs.Formula.{visits, before, arriving, arrivals}
-use Rattle.rules.specs.Valid.{Distinct, InRange, RisingNumbers, Valid}
+use Rattle.rules.specs.Valid.{RisingNumbers, Valid}
 use Rattle.rules.proofs.Path.{visits-cases}
 use Rattle.paths.specs.Paths.{positionOf}
-use Rattle.paths.proofs.Places.{member-at, position-below, position-node, position-at}
+use Rattle.paths.proofs.Places.{member-at, position-below, position-at}
 use Rattle.starts.specs.Sheet.{mostNodes}
-use Rattle.sheets.specs.Fields.{noHop, noFlow, flowAt, nodeAt, noPlace, lag, source, placeIn, responsesIn}
+use Rattle.sheets.specs.Fields.{noHop, noFlow, flowAt, noPlace, lag, source, placeIn, responsesIn}
 
 pub flow-here : (N : Net) (a : ℕ) → a < length (N .flows) → List·Memᴰ (flowAt N a) (N .flows)
 flow-here N a h = member-at (N .flows) a noFlow h

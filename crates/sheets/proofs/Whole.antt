@@ -1,23 +1,21 @@
 -- A whole sheet: its sums, starting times and response bounds are the rules'. Assumes nothing.
-use mathlib.Core.Path.{_≡_, refl, sym, ap, ap₂, _∙_, subst}
+use mathlib.Core.Path.{_≡_, refl, sym, ap, _∙_, subst}
 use mathlib.Core.Bool.{Bool, true, false}
 use mathlib.Core.Logic.{_⊎_, inl, inr}
 use mathlib.Core.List.{List}
 use Prim.Native.Nat.{ℕ, _+_, _-_, _*_, _%_, _≤_, _<_}
 use native.Mathlib.Omega.{arith}
-use native.Mathlib.Nat.{le-refl, le-of-eq}
+use native.Mathlib.Nat.{le-refl}
 use lib.Dec.{eqb}
 use lib.ListN.{length}
 use borrow.Author.Tests.{eqb-false}
 use Rattle.least.specs.Count.{pick, count}
-use Rattle.least.specs.Fold.{sumTo}
 use Rattle.least.specs.Fixed.{Least}
-use Rattle.least.specs.Instants.{bestTo}
 use Rattle.least.proofs.Count.{count-after}
 use Rattle.least.proofs.Fixed.{least-ext}
 use Rattle.least.proofs.Instants.{best-ext}
-use Rattle.rules.specs.Net.{Hop, Flow, Net}
-use Rattle.rules.specs.Formula.{horizon, Role, Own, Higher, Equal, Lower, role, visits, prefix, before, lastOn, costAt, slowest, ownWeight, Arrivals, others, term3, term4, term5, term6, sum, arrivals}
+use Rattle.rules.specs.Net.{Flow, Net}
+use Rattle.rules.specs.Formula.{horizon, Role, Own, Higher, Equal, Lower, role, visits, prefix, before, lastOn, costAt, slowest, ownWeight, Arrivals, term3, term4, term5, term6, sum, arrivals}
 use Rattle.rules.specs.Valid.{Valid}
 use Rattle.rules.specs.Judge.{busyLength, start, response}
 use Rattle.rules.proofs.Path.{last-cases, before-less, before-visits}
@@ -26,8 +24,8 @@ use Rattle.rules.proofs.Start.{sum-rising, meant-starts, start-unique, start-is
 use Rattle.rules.proofs.Exact.{cost-slowest}
 use Rattle.paths.specs.Paths.{positionOf}
 use Rattle.paths.proofs.Places.{visits-at, position-node, position-at, prefix-at}
-use Rattle.starts.specs.Sheet.{mostNodes, mostTime, entrySize, blockSize, hereSlot, instantSlot, values, added, termOf, sheetSum, seen, sums, Back, Small, Fit, StartsOf}
-use Rattle.starts.specs.Runs.{PastAt, Maxima, ResponsesAre}
+use Rattle.starts.specs.Sheet.{mostNodes, entrySize, blockSize, hereSlot, values, added, sheetSum, sums, Back, Small, Fit, StartsOf}
+use Rattle.starts.specs.Runs.{Maxima, ResponsesAre}
 use Rattle.sheets.specs.Fields.{flowAt, nodeAt, upTo, noPlace, lookOf, baseOf, addedOf, EntryIs, SheetIs, responsesIn}
 use Rattle.sheets.proofs.Places.{flow-here}
 use Rattle.sheets.proofs.Link.{entries-sum}

@@ -2,19 +2,16 @@
 use mathlib.Core.Path.{_≡_, refl, sym, ap, _∙_, subst}
 use mathlib.Core.Bool.{Bool, true, false}
 use mathlib.Core.List.{List}
-use Prim.Native.Nat.{ℕ, _+_, _*_, _%_, _≤_, _<_}
+use Prim.Native.Nat.{ℕ, _+_, _≤_, _<_}
 use native.Mathlib.Omega.{arith}
-use native.Mathlib.Nat.{le-of-eq}
 use lib.Dec.{eqb}
 use lib.ListN.{length, set, length-set}
 use lib.Seq.{getD-set-same, getD-set-other}
 use borrow.Author.Tests.{eqb-true, eqb-false}
-use Rattle.least.specs.Count.{pick, count}
-use Rattle.least.specs.Fold.{sumTo}
-use Rattle.least.specs.Fixed.{Least, Under}
-use Rattle.least.proofs.Fold.{sum-to-le}
+use Rattle.least.specs.Count.{pick}
+use Rattle.least.specs.Fixed.{Under}
 use Rattle.least.proofs.Fixed.{under-step, under-done}
-use Rattle.starts.specs.Sheet.{mostTime, entrySize, blockSize, hereSlot, instantSlot, values, added, termOf, sheetSum, seen, sums, Small, Fit}
+use Rattle.starts.specs.Sheet.{mostTime, hereSlot, instantSlot, values, added, sheetSum, seen, sums, Small, Fit}
 use Rattle.starts.specs.Begins.{BeginIs}
 use Rattle.starts.specs.declared.Begin.the-variants.{At, Past}
 use Rattle.starts.proofs.Sums.{sheet-ext, sums-rising}

@@ -1,7 +1,6 @@
 -- One instant, node by node: a law for the start, a turn and each way out. Assumes nothing.
-use mathlib.Core.Path.{_≡_, refl, sym, ap, _∙_, subst}
+use mathlib.Core.Path.{_≡_, refl, sym, _∙_, subst}
 use mathlib.Core.Bool.{Bool, true, false}
-use mathlib.Core.Logic.{_⊎_, inl, inr}
 use mathlib.Core.List.{List}
 use Prim.Native.Nat.{ℕ, _+_, _-_, _≤_, _<_, max}
 use native.Mathlib.Omega.{arith}
@@ -11,10 +10,9 @@ use lib.Seq.{getD-set-same, getD-set-other}
 use borrow.Author.Count.{below-more}
 use borrow.Author.Tests.{eqb-true, eqb-false}
 use Rattle.least.specs.Fixed.{Least, Under}
-use Rattle.least.proofs.Count.{le-or-lt}
-use Rattle.starts.specs.Sheet.{mostNodes, mostTime, hereSlot, instantSlot, values, added, sums, Small, Fit, StartsOf, prior}
+use Rattle.starts.specs.Sheet.{mostNodes, mostTime, instantSlot, values, added, sums, Small, Fit, StartsOf, prior}
 use Rattle.starts.specs.Begins.{BeginIs, BeginFits}
-use Rattle.starts.specs.Runs.{Low, AtNode, PastAt, Found, InstantIs}
+use Rattle.starts.specs.Runs.{Low, AtNode, PastAt}
 use Rattle.starts.specs.declared.Begin.{Begin}
 use Rattle.starts.specs.declared.Begin.the-variants.{At, Past}
 use Rattle.starts.proofs.Sums.{sums-same, start-found, from-under}

@@ -1,17 +1,16 @@
 -- How the sums of a sheet rise, and where their starting times lie. Assumes nothing.
-use mathlib.Core.Path.{_≡_, refl, sym, ap, _∙_}
+use mathlib.Core.Path.{_≡_, sym}
 use mathlib.Core.Bool.{Bool, true, false}
-use mathlib.Core.Logic.{_⊎_, inl, inr}
+use mathlib.Core.Logic.{inl, inr}
 use mathlib.Core.List.{List}
 use Prim.Native.Nat.{ℕ, zero, suc, _+_, _*_, _%_, _≤_, _<_}
 use native.Mathlib.Omega.{arith}
 use native.Mathlib.Nat.{le-refl, le-trans, le-of-eq, mul-le-mul-right}
 use lib.Dec.{eqb}
 use borrow.Author.Tests.{eq-eqb}
-use Rattle.least.specs.Count.{pick, count}
-use Rattle.least.specs.Fold.{sumTo}
+use Rattle.least.specs.Count.{pick}
 use Rattle.least.specs.Fixed.{Rising, Least, Under}
-use Rattle.least.specs.Starts.{Order, Starts, Within}
+use Rattle.least.specs.Starts.{Order}
 use Rattle.least.proofs.Count.{count-rises, pick-le}
 use Rattle.least.proofs.Fold.{sum-to-le}
 use Rattle.least.proofs.Fixed.{least-unique, least-ext, under-zero, under-ext}

@@ -108,7 +108,7 @@ pub struct Run {
     pub past: bool,
 }
 
-fn larger(a: u64, b: u64) -> u64
+pub fn larger(a: u64, b: u64) -> u64
     ensures { λ r. ⌜ r ≡ max a b ⌝ }
 {
     if a < b {

@@ -1,8 +1,4 @@
 use Rattle.starts.proofs.Nodes.{Going, going-start, first-set, going-past, begin-small, going-more, going-end}
-use mathlib.Core.Path.{_≡_, refl, ap, ap₂, subst, _∙_}
-use Rattle.least.specs.Fixed.{Under}
-use Rattle.starts.specs.Begins.{BeginIs, BeginFits}
-use Rattle.starts.specs.Sheet.{values, sums, instantSlot, Fit}
 use Prim.Native.Nat.{_-_}
 use borrow.Author.Needs.{needs}
 use native.Mathlib.Omega.{arith}

@@ -1,6 +1,6 @@
 use Rattle.starts.proofs.Climb.{Kept, Climbs, kept-set, slots-small, climbs-more, climbs-at, climbs-past}
 use Rattle.starts.specs.Sheet.{mostTime, instantSlot, values, added, Small}
-use Prim.Native.Nat.{_+_, _-_, _*_, _≤_, _<_}
+use Prim.Native.Nat.{_+_, _-_, _*_, _<_}
 use mathlib.Core.Path.{_≡_, refl}
 use borrow.Author.Needs.{needs}
 use native.Mathlib.Omega.{arith}

@@ -1,7 +1,6 @@
 use lib.ListN.{getD}
 use Prim.Native.Nat.{_+_, _%_}
 use Rattle.starts.proofs.Terms.{term-none, term-some, term-small}
-use Rattle.starts.specs.Sheet.{values}
 use native.Mathlib.Omega.{arith}
 use borrow.Author.Needs.{needs}
 use Rattle.starts.proofs.term.Statement.{statement}

@@ -1,0 +1,70 @@
+-- Turns until no flow is marked. Assumes nothing.
+use mathlib.Core.Path.{_≡_, refl, sym, subst}
+use mathlib.Core.Bool.{Bool, true, false}
+use mathlib.Core.List.{List}
+use Prim.Native.Nat.{ℕ, zero, suc, _≤_, _<_}
+use native.Mathlib.Omega.{arith}
+use lib.ListN.{replicate, length-replicate}
+use Rattle.rules.specs.Net.{Flow, Net}
+use Rattle.rules.specs.Formula.{horizon}
+use Rattle.rules.specs.Meaning.{Here}
+use Rattle.rules.specs.Valid.{Valid}
+use Rattle.rules.proofs.Busy.{Ready}
+use Rattle.starts.specs.Sheet.{mostFlows, values}
+use Rattle.sheets.specs.Fields.{noPlace}
+use Rattle.sheets.specs.Setup.{Setup}
+use Rattle.sheets.proofs.Filling.{zeros}
+use Rattle.settle.specs.Good.{Good, Outcome}
+use Rattle.settle.specs.Turns.{ChosenIs, Fair, Keeps, TurnIs, SettleIs}
+use Rattle.settle.proofs.Steps.{good-start, good-end}
+
+ones : (n b : ℕ) → b < n → values (replicate n 1) b ≡ 1
+ones zero b h = absurd (omega arith)
+ones (suc n) zero h = refl
+ones (suc n) (suc b) h = ones n b (omega arith)
+
+flag : (n b : ℕ) → values (replicate n 1) b ≤ 1
+flag zero b = omega arith
+flag (suc n) zero = omega arith
+flag (suc n) (suc b) = flag n b
+
+module _ (nums from also lengths busies reads : List ℕ) (n : ℕ) where
+  pub record Settling (replies marks : List ℕ) (past : Bool) (a : ℕ) : Type 0 where
+    pub fair : Fair replies marks
+    pub clear : past ≡ false
+    pub chosen : ChosenIs marks n n a
+    pub good : (N : Net) → Valid N → ((i : Flow) → Here N i → Ready N i) → Setup N nums from also lengths busies reads n → Good N replies marks
+
+  pub settling-start : n ≤ mostFlows → (a : ℕ) → ChosenIs (replicate mostFlows 1) n n a → Settling (replicate 256 0) (replicate mostFlows 1) false a
+  settling-start most a chosen = record {
+    fair = record {
+      low = λ x. omega (arith, zeros 256 x);
+      none = zeros 256 noPlace;
+      flags = flag mostFlows;
+      long = length-replicate {A = ℕ} mostFlows 1;
+    };
+    clear = refl;
+    chosen = chosen;
+    good = λ N val ready setup.
+        good-start N val ready (replicate 256 0) (replicate mostFlows 1) (zeros 256) (λ b h z. omega (arith, setup .count, ones mostFlows b (omega (arith, setup .count))));
+  }
+
+  module _ (replies marks : List ℕ) (past : Bool) (a : ℕ) (s : Settling replies marks past a) (past′ : Bool) (replies′ marks′ : List ℕ)
+      (turn : TurnIs nums from also lengths busies reads n replies marks a past′ replies′ marks′) (fair : Fair replies′ marks′) where
+    pub settling-past : past′ ≡ true → SettleIs nums from also lengths busies reads n past′ replies′
+    settling-past e N val ready setup =
+        subst (λ b. Outcome N b replies′) (sym e) (subst (λ b. Keeps N b replies′ marks′) e (turn .keeps N val ready setup (s .good N val ready setup)))
+
+    pub settling-more : past′ ≡ false → (a′ : ℕ) → ChosenIs marks′ n n a′ → Settling replies′ marks′ past′ a′
+    settling-more e a′ chosen = record {
+      fair = fair;
+      clear = e;
+      chosen = chosen;
+      good = λ N val ready setup. subst (λ b. Keeps N b replies′ marks′) e (turn .keeps N val ready setup (s .good N val ready setup));
+    }
+
+  pub settling-end : (replies marks : List ℕ) (past : Bool) (a : ℕ) → Settling replies marks past a → n ≤ a → SettleIs nums from also lengths busies reads n past replies
+  unfolding horizon
+  settling-end replies marks past a s h N val ready setup =
+      subst (λ b. Outcome N b replies) (sym (s .clear))
+      (good-end N val ready replies marks (s .good N val ready setup) (λ b q. s .chosen .none h b (omega (arith, setup .count))) (s .fair .low))
