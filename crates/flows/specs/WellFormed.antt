@@ -44,7 +44,7 @@ pub record Typed (f : Flow) : Type 0 where
   pub period : f .period < 65536
   pub jitter : f .jitter < 65536
   pub deadline : f .deadline < 65536
-  pub long : f .length < 256
+  pub path : f .length < 256
   pub nodes : length (f .nodes) ≡ mostNodes
   pub costs : length (f .costs) ≡ mostNodes
   pub node : (k : ℕ) → getD (f .nodes) k 0 < 256

@@ -2,3 +2,4 @@ pub mod Places
 pub mod Steps
 pub mod Puts
 pub mod Trips
+pub mod Refusals
