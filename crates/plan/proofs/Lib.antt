@@ -3,3 +3,4 @@ pub mod Steps
 pub mod Puts
 pub mod Trips
 pub mod Refusals
+pub mod Cases

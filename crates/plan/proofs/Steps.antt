@@ -131,7 +131,7 @@ module _ (room lmin lmax : ℕ) (fs : List Flow) (b : List ℕ) (at : ℕ) where
   flows-at-flow h = rw (flows-is, h)
 
 -- a flow is accepted only where there is room
-pub has-room : (fs : List Flow) (f : Flow) → acceptedBy (recordCause fs f) ≡ true → length fs < mostFlows
+has-room : (fs : List Flow) (f : Flow) → acceptedBy (recordCause fs f) ≡ true → length fs < mostFlows
 unfolding recordCause
 has-room fs f h =
     go (fallsTo (f .number) (lastNumber fs)) (acceptedBy (flowCause f)) (leb mostFlows (length fs)) refl refl h
@@ -173,10 +173,10 @@ module _ (lmin lmax : ℕ) (row : Row) (b : List ℕ) (at : ℕ) (x : Reading) (
     flows-refused r m g = g ∙ rw (← l, not-true t m) at at-flow
 
     module _ (m : not t ≡ false) where
-      pub flows-room : length (held row) < mostFlows
+      flows-room : length (held row) < mostFlows
       flows-room = has-room (held row) f (rw (← j, ← l) (not-false t m))
 
-      pub flows-held : (next : Row) → next ≡ appended row f → next ≡ rowOf (held row ++ (f ∷ []))
+      flows-held : (next : Row) → next ≡ appended row f → next ≡ rowOf (held row ++ (f ∷ []))
       flows-held next g = g ∙ ap (λ (r : Row). appended r f) made ∙ append-list (held row) f flows-room
 
       pub flows-more : (next : Row) → next ≡ appended row f → readFlows (mostFlows - length (held next)) lmin lmax (held next) b (at + flowRecord) ≡ x

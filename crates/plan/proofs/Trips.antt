@@ -35,7 +35,7 @@ use Rattle.plan.proofs.Places.{kind-end, kind-links, kind-flow, at-some
 use Rattle.plan.proofs.Steps.{nextAfter, flows-at-none, flows-at-links, flows-at-end, flows-at-flow, plan-at-links, plan-at-flow, plan-at-end, plan-at-none}
 
 -- ---- written, then read
-pub last-snoc : (fs : List Flow) (f : Flow) → lastNumber (fs ++ (f ∷ [])) ≡ f .number
+last-snoc : (fs : List Flow) (f : Flow) → lastNumber (fs ++ (f ∷ [])) ≡ f .number
 unfolding lastNumber
 last-snoc fs f =
     let n : length (fs ++ (f ∷ [])) - 1 ≡ length fs = omega (arith, length-snoc fs f) in

@@ -36,6 +36,7 @@ pub enum Written {
     Refused(Refusal),
 }
 
+// Of a kind byte with left bytes after it.
 fn kind_of(kind: u8, left: usize) -> Kind
     ensures { λ r. ⌜ r ≡ kindOf kind left ⌝ }
 {
@@ -157,6 +158,7 @@ fn read_flows(plan: &[u8], lmin: u16, lmax: u16) -> Reading
     read_end(plan, at, lmin, lmax, row)
 }
 
+// One 01, then 0 to 16 of 02 with rising numbers, then 7F, then nothing; records are judged in order.
 pub fn read(plan: &[u8]) -> Reading
     ensures { λ r. ⌜ r ≡ readPlan (now (plan .entry)) ⌝ }
 {
