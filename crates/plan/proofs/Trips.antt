@@ -9,11 +9,12 @@ use lib.ListN.{length, getD, take, drop, length-append, length-drop, take-append
 use lib.Seq.{take-at, drop-append-add, drop-cons, drop-drop, getD-append-seam, getD-drop, append-snoc, length-take-le}
 use lib.Dec.{leb, ltb, eqb}
 use borrow.Author.Tests.{eqb-true, leb-false, le-ltb, lt-leb, ltb-false}
+use Rattle.rules.specs.Valid.{Valid}
 use Rattle.flows.specs.declared.Flow.{Flow}
 use Rattle.flows.specs.declared.Cause.{Cause}
 use Rattle.flows.specs.declared.Cause.the-variants.{Accepted, Delays, Full, Malformed}
 use Rattle.flows.specs.Refusals.{numberOf, acceptedBy}
-use Rattle.flows.specs.Lists.{mostFlows, noFlow, held, rowOf}
+use Rattle.flows.specs.Lists.{mostFlows, noFlow, held, rowOf, netOf}
 use Rattle.flows.specs.Tests.{mostDelay, delayCause, flowCause}
 use Rattle.flows.specs.WellFormed.{Each, each-none, each-more, Typed}
 use Rattle.row.specs.Rows.{lastNumber, Rising, rising-none, rising-more}
@@ -28,6 +29,7 @@ use Rattle.plan.specs.Writing.{linksBytes, flowBytes, flowsBytes, planBy
 use Rattle.plan.specs.Sets.{Readable}
 use Rattle.flows.proofs.Causes.{accepted-only}
 use Rattle.flows.proofs.Passed.{well-formed}
+use Rattle.row.proofs.Valid.{row-valid}
 use Rattle.row.proofs.Arrays.{held-rowOf, length-snoc}
 use Rattle.records.proofs.Writing.{length-flow}
 use Rattle.records.proofs.RoundTrip.{Bytes, read-typed, flow-back, links-back, flow-again, links-again}
@@ -335,6 +337,10 @@ module _ (b : List ℕ) where
       let s = plan-lists u h in
       ap (λ (r : Reading). planBytes (r .lmin) (r .lmax) (held (r .row))) (s .read) ∙
       ap (λ (fs : List Flow). planBytes (s .lmin) (s .lmax) fs) (held-rowOf (s .flows)) ∙ sym (s .bytes)
+
+-- ---- a set that a plan can list is a valid set of the rules, and each of its flows well formed
+pub readable-valid : (lmin lmax : ℕ) (fs : List Flow) → Readable lmin lmax fs → Valid (netOf lmin lmax (rowOf fs))
+readable-valid lmin lmax fs s = row-valid lmin lmax fs (delays-small lmin lmax (s .delays) .0) (s .rising) (s .flows) (s .typed)
 
 -- ---- the length of a plan
 flows-long : (fs : List Flow) → Each Typed fs → length (flowsBytes fs) ≡ flowRecord * length fs
