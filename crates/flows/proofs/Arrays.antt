@@ -9,6 +9,9 @@ use Rattle.rules.specs.Net.{Hop}
 use Rattle.flows.specs.declared.Flow.{Flow}
 use Rattle.flows.specs.Lists.{mostNodes, hopsOf, pathOf}
 use Rattle.flows.specs.Tests.{nodesOf}
+use Rattle.flows.specs.WellFormed.{Typed}
+use mir.Val.{Fits}
+use mir.Syntax.{w8, w16}
 
 -- owning an array of structs tells the length of a mapped list
 pub length-of-map : (A B : Type 0) (f : A → B) (l : List A) (n : ℕ) → length (map f l) ≡ n → length l ≡ n
@@ -54,3 +57,19 @@ module _ (f : Flow) (nodes : length (f .nodes) ≡ mostNodes) (costs : length (f
   node-at k h =
       let g : k < f .length = omega (arith, length-take (f .length) (hopsOf (f .nodes) (f .costs))) in
       getD-take (f .length) (f .nodes) k 0 g
+
+-- what the type of a parameter says, as it is known of the parameter
+pub typed : (f : Flow) → f .number < 256 → f .priority < 256 → f .period < 65536 → f .jitter < 65536 → f .deadline < 65536 → f .length < 256 →
+    length (f .nodes) ≡ mostNodes → length (f .costs) ≡ mostNodes → ((k : ℕ) → Fits w8 (getD (f .nodes) k 0)) → ((k : ℕ) → Fits w16 (getD (f .costs) k 0)) → Typed f
+typed f a b c d e g h i j k = record {
+  number = a;
+  priority = b;
+  period = c;
+  jitter = d;
+  deadline = e;
+  path = g;
+  nodes = h;
+  costs = i;
+  node = λ n. j n .fits;
+  cost = λ n. k n .fits;
+}

@@ -1,12 +1,12 @@
 -- A law for each way out of the tests.
 use Prim.Native.Nat.{ℕ, _<_, _≤_}
-use mathlib.Core.Path.{_≡_}
-use mathlib.Core.Bool.{Bool, true, false, not}
+use mathlib.Core.Path.{_≡_, refl}
+use mathlib.Core.Bool.{Bool, true, false, not, false≢true}
 use lib.Dec.{leb, eqb}
 use borrow.Author.Tests.{eq-eqb, ne-eqb, lt-ltb, le-ltb, le-leb, lt-leb, not-true, not-false}
 use Rattle.flows.specs.declared.Flow.{Flow}
 use Rattle.flows.specs.declared.Cause.{Cause}
-use Rattle.flows.specs.declared.Cause.the-variants.{Accepted, Delays, NumberZero, OutOfRange, NodeTwice}
+use Rattle.flows.specs.declared.Cause.the-variants.{Accepted, Delays, NumberZero, OutOfRange, NodeTwice, Present, Full, Crossing, NoBusyLength, Unsettled, PastDeadline, Absent, Malformed, ShortBuffer}
 use Rattle.flows.specs.Refusals.{numberOf, acceptedBy, flowNamed, refusalOf}
 use Rattle.flows.specs.Lists.{mostNodes, pathOf, unusedOf}
 use Rattle.flows.specs.Tests.{mostDelay, mostCost, delayCause, every, hopFits, hopZero, rangesFit, distinct, nodesOf, flowCause}
@@ -98,3 +98,19 @@ refusal-made cause place n f e g = rw (e, g)
 
 pub accepted-is : (cause : Cause) (n : ℕ) → n ≡ numberOf cause → eqb n 0 ≡ acceptedBy cause
 accepted-is cause n e = rw e
+
+pub accepted-only : (cause : Cause) → acceptedBy cause ≡ true → cause ≡ Accepted
+accepted-only Accepted e = refl
+accepted-only Delays e = absurd (false≢true e)
+accepted-only NumberZero e = absurd (false≢true e)
+accepted-only OutOfRange e = absurd (false≢true e)
+accepted-only NodeTwice e = absurd (false≢true e)
+accepted-only Present e = absurd (false≢true e)
+accepted-only Full e = absurd (false≢true e)
+accepted-only (Crossing flow) e = absurd (false≢true e)
+accepted-only (NoBusyLength flow) e = absurd (false≢true e)
+accepted-only Unsettled e = absurd (false≢true e)
+accepted-only (PastDeadline flow) e = absurd (false≢true e)
+accepted-only Absent e = absurd (false≢true e)
+accepted-only Malformed e = absurd (false≢true e)
+accepted-only ShortBuffer e = absurd (false≢true e)

@@ -9,7 +9,7 @@ use borrow.Author.Tests.{eq-eqb, ne-eqb, not-true, not-false}
 use Rattle.rules.specs.Net.{Hop}
 use Rattle.flows.specs.declared.Flow.{Flow}
 use Rattle.flows.specs.Lists.{mostNodes, hopsOf, pathOf, unusedOf}
-use Rattle.flows.specs.Tests.{every, hopFits, hopZero, distinct, nodesOf, newTo, lastAt}
+use Rattle.flows.specs.Tests.{every, hopFits, hopZero, distinct, nodesOf, newTo, notAgain}
 use Rattle.flows.proofs.Each.{every-more, every-fails, every-end, distinct-more, distinct-fails, distinct-end}
 use Rattle.flows.proofs.Arrays.{nowhere, length-hops, hop-at, path-at, path-nodes, node-at}
 
@@ -32,8 +32,8 @@ module _ (f : Flow) (k : ℕ) (nodes : length (f .nodes) ≡ mostNodes) (costs :
       used-end h = every-end hopFits (pathOf f) k nowhere _ inv (omega arith)
 
     module _ (inv : distinct (drop k (nodesOf f)) ≡ distinct (nodesOf f)) where
-      module _ (r : Bool) (h : k < n) (g : r ≡ lastAt f k) where
-        alike : newTo (drop (k + 1) (nodesOf f)) (getD (nodesOf f) k 0) ≡ lastAt f k
+      module _ (r : Bool) (h : k < n) (g : r ≡ notAgain f k) where
+        alike : newTo (drop (k + 1) (nodesOf f)) (getD (nodesOf f) k 0) ≡ notAgain f k
         alike = ap (newTo (drop (k + 1) (nodesOf f))) (node-at f nodes costs k (omega arith))
 
         pub differ-more : not r ≡ false → distinct (drop (k + 1) (nodesOf f)) ≡ distinct (nodesOf f)

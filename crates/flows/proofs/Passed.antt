@@ -2,18 +2,22 @@
 use Prim.Native.Nat.{ℕ, zero, suc, _<_, _≤_}
 use mathlib.Core.Path.{_≡_, refl, sym, ap, _∙_}
 use mathlib.Core.Bool.{Bool, true, false, cond, not, _&&_}
-use mathlib.Core.List.{List, [], _∷_, map}
+use mathlib.Core.List.{List, [], _∷_, map, List·Memᴰ, List·Memᴰ·not-nil, List·Memᴰ·cases-cons}
+use mathlib.Core.Logic.{⊎-elim}
 use native.Mathlib.Omega.{arith}
 use lib.ListN.{length, getD, take}
 use lib.Dec.{leb, eqb}
 use borrow.Author.Tests.{eqb-false, leb-true, not-true}
 use Rattle.rules.specs.Net as net
+use Rattle.least.specs.Fold.{anyOf}
+use Rattle.rules.specs.Formula.{visits}
+use Rattle.rules.specs.Valid.{Distinct, InRange}
 use Rattle.flows.specs.declared.Flow.{Flow}
 use Rattle.flows.specs.declared.Cause.the-variants.{Accepted, NumberZero, OutOfRange, NodeTwice}
 use Rattle.flows.specs.Refusals.{numberOf}
 use Rattle.flows.specs.Lists.{mostNodes, hopsOf, pathOf, unusedOf, flowOf}
 use Rattle.flows.specs.Tests.{mostCost, every, hopFits, hopZero, rangesFit, distinct, newTo, nodesOf, flowCause}
-use Rattle.flows.specs.WellFormed.{Each, each-none, each-more, Distinct, distinct-none, distinct-more, HopInRange, WellFormed, Typed}
+use Rattle.flows.specs.WellFormed.{Each, each-none, each-more, HopInRange, WellFormed, Typed}
 use Rattle.flows.proofs.Arrays.{nowhere, path-short, path-at}
 
 both : (a b : Bool) → (a && b) ≡ true → (a ≡ true) × (b ≡ true)
@@ -35,12 +39,19 @@ module _ {A : Type 0} where
   each-of P [] d g = each-none
   each-of P (x ∷ xs) d g = each-more (g 0 (omega arith)) (each-of P xs d (λ k h. g (suc k) (omega arith)))
 
-are-distinct : (ns : List ℕ) → distinct ns ≡ true → Distinct ns
+none-visited : (l : List net.Hop) (n : ℕ) → newTo (map (λ (h : net.Hop). h .node) l) n ≡ true → visits l n ≡ false
+unfolding every visits anyOf
+none-visited [] n e = refl
+none-visited (k ∷ l) n e =
+    let h = both (not (eqb (k .node) n)) (newTo (map (λ (h : net.Hop). h .node) l) n) e in
+    rw (not-true (eqb (k .node) n) (h .0)) (none-visited l n (h .1))
+
+are-distinct : (l : List net.Hop) → distinct (map (λ (h : net.Hop). h .node) l) ≡ true → Distinct l
 unfolding distinct
-are-distinct [] e = distinct-none
-are-distinct (n ∷ ns) e =
-    let h = both (newTo ns n) (distinct ns) e in
-    distinct-more (each-by _ _ (λ m t. eqb-false m n (not-true (eqb m n) t)) ns (h .0)) (are-distinct ns (h .1))
+are-distinct [] e = tt
+are-distinct (k ∷ l) e =
+    let h = both (newTo (map (λ (h : net.Hop). h .node) l) (k .node)) (distinct (map (λ (h : net.Hop). h .node) l)) e in
+    (none-visited l (k .node) (h .0), are-distinct l (h .1))
 
 nodes-of-hops : (n : ℕ) (ns cs : List ℕ) → length ns ≡ length cs → map (λ (h : net.Hop). h .node) (take n (hopsOf ns cs)) ≡ take n ns
 nodes-of-hops zero ns cs e = refl
@@ -69,14 +80,14 @@ passed f e = go (eqb (f .number) 0) (rangesFit f) (distinct (nodesOf f)) refl re
     go false true true p q r z = record { number = let h = eqb-false (f .number) 0 p in omega arith; ranges = q; differ = r }
 
 -- the six parts of refusal 3's test
-record InRange (f : Flow) : Type 0 where
+record Ranges (f : Flow) : Type 0 where
   period : 1 ≤ f .period
   deadline : 1 ≤ f .deadline
   least : 1 ≤ f .length
   most : f .length ≤ mostNodes
   used : every hopFits (pathOf f) ≡ true
 
-in-range : (f : Flow) → rangesFit f ≡ true → InRange f
+in-range : (f : Flow) → rangesFit f ≡ true → Ranges f
 unfolding rangesFit
 in-range f e =
     let a = both _ (every hopZero (unusedOf f)) e in
@@ -125,5 +136,19 @@ well-formed f t e =
       path-least = omega (arith, r .least, n);
       path-most = omega (arith, r .most, n);
       hops = each-of HopInRange (pathOf f) nowhere hop;
-      nodes = rw (nodes-of-hops (f .length) (f .nodes) (f .costs) (t .nodes ∙ sym (t .costs))) (are-distinct (nodesOf f) (p .differ));
+      nodes = are-distinct (pathOf f) (rw (nodes-of-hops (f .length) (f .nodes) (f .costs) (t .nodes ∙ sym (t .costs))) (p .differ));
     }
+
+each-member : {A : Type 0} (P : A → Type 0) (l : List A) {x : A} → Each P l → List·Memᴰ x l → P x
+each-member P [] e m = absurd (List·Memᴰ·not-nil m)
+each-member P (y ∷ l) {x} (each-more p e) m =
+    ⊎-elim (λ (q : x ≡ y). rw q p) (λ (i : List·Memᴰ x l). each-member P l e i) (List·Memᴰ·cases-cons m)
+
+-- and what the formula needs of them
+pub formula-range : (f : net.Flow) → WellFormed f → InRange f
+formula-range f w = record {
+  period = w .period-least;
+  nodes = w .path-least;
+  distinct = w .nodes;
+  costs = λ k m. each-member HopInRange (f .path) (w .hops) m .cost-least;
+}

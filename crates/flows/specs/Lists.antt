@@ -53,5 +53,8 @@ held row = take (row .count) (row .flows)
 unfoldable pub rowOf : List Flow → Row
 rowOf fs = record { flows = fs ++ replicate (mostFlows - length fs) noFlow; count = length fs }
 
-abbrev pub netOf : Table → net.Net
-netOf t = record { lmin = t .lmin; lmax = t .lmax; flows = map flowOf (held (t .row)) }
+abbrev pub netOf : ℕ → ℕ → Row → net.Net
+netOf lmin lmax row = record { lmin = lmin; lmax = lmax; flows = map flowOf (held row) }
+
+abbrev pub tableNet : Table → net.Net
+tableNet t = netOf (t .lmin) (t .lmax) (t .row)

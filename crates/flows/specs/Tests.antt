@@ -49,9 +49,9 @@ distinct (n ∷ ns) = newTo ns n && distinct ns
 abbrev pub nodesOf : Flow → List ℕ
 nodesOf f = take (f .length) (f .nodes)
 
--- node i of the path is none of those after it
-abbrev pub lastAt : Flow → ℕ → Bool
-lastAt f i = newTo (drop (i + 1) (nodesOf f)) (getD (f .nodes) i 0)
+-- node i does not come again on the path
+abbrev pub notAgain : Flow → ℕ → Bool
+notAgain f i = newTo (drop (i + 1) (nodesOf f)) (getD (f .nodes) i 0)
 
 -- 2: flow number 0; 3: out of range; 4: a node twice on a path
 unfoldable pub flowCause : Flow → Cause

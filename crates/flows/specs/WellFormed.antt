@@ -1,9 +1,10 @@
 -- What is known of a flow that passed refusals 2 to 4: document 01's "Numbers", of the rules' flow.
 use Prim.Native.Nat.{ℕ, _<_, _≤_}
 use mathlib.Core.Path.{_≡_}
-use mathlib.Core.List.{List, [], _∷_, map}
+use mathlib.Core.List.{List, [], _∷_}
 use lib.ListN.{length, getD}
 use Rattle.rules.specs.Net as net
+use Rattle.rules.specs.Valid.{Distinct}
 use Rattle.flows.specs.declared.Flow.{Flow}
 use Rattle.flows.specs.Lists.{mostNodes}
 use Rattle.flows.specs.Tests.{mostCost}
@@ -12,10 +13,6 @@ module _ {A : Type 0} (P : A → Type 0) where
   pub data Each : List A → Type 0 where
     each-none : Each []
     each-more : {x : A} {xs : List A} → P x → Each xs → Each (x ∷ xs)
-
-pub data Distinct : List ℕ → Type 0 where
-  distinct-none : Distinct []
-  distinct-more : {n : ℕ} {ns : List ℕ} → Each (λ m. m ≡ n → ⊥) ns → Distinct ns → Distinct (n ∷ ns)
 
 pub record HopInRange (h : net.Hop) : Type 0 where
   pub node-least : 1 ≤ h .node
@@ -35,7 +32,7 @@ pub record WellFormed (f : net.Flow) : Type 0 where
   pub path-least : 1 ≤ length (f .path)
   pub path-most : length (f .path) ≤ mostNodes
   pub hops : Each HopInRange (f .path)
-  pub nodes : Distinct (map (λ (h : net.Hop). h .node) (f .path))
+  pub nodes : Distinct (f .path)
 
 -- what the types of its fields say of any flow
 pub record Typed (f : Flow) : Type 0 where
@@ -44,7 +41,7 @@ pub record Typed (f : Flow) : Type 0 where
   pub period : f .period < 65536
   pub jitter : f .jitter < 65536
   pub deadline : f .deadline < 65536
-  pub long : f .length < 256
+  pub path : f .length < 256
   pub nodes : length (f .nodes) ≡ mostNodes
   pub costs : length (f .costs) ≡ mostNodes
   pub node : (k : ℕ) → getD (f .nodes) k 0 < 256

@@ -1,11 +1,11 @@
-// A flow as the table holds it, why a call is refused, and the tests that a flow and the link delays must pass.
+// The types of the table, why a call is refused, and refusals 1 to 4 as tests.
 ghost use mathlib.Core.Path.{_≡_};
-ghost use Prim.Native.Nat.{_+_, _<_, _≤_};
-ghost use lib.ListN.{length, drop};
-ghost use Rattle.rules.specs.Net.{Hop};
+ghost use Prim.Native.Nat.{_<_, _≤_};
+ghost use lib.ListN.{length};
 ghost use Rattle.flows.specs.Refusals.{numberOf, acceptedBy, flowNamed, refusalOf};
 ghost use Rattle.flows.specs.Lists.{mostNodes, noFlow, pathOf, unusedOf};
-ghost use Rattle.flows.specs.Tests.{delayCause, every, hopFits, hopZero, rangesFit, distinct, nodesOf, lastAt, flowCause};
+ghost use Rattle.flows.specs.Tests.{delayCause, every, hopFits, hopZero, rangesFit, distinct, nodesOf, notAgain, flowCause};
+ghost use Rattle.flows.specs.WellFormed.{Typed};
 
 // The flows of a table, and the nodes of a path, at most.
 pub const FLOWS: usize = 16;
@@ -17,6 +17,7 @@ pub const DELAY: u16 = 4095;
 
 pub const COST: u16 = 4095;
 
+// The first length nodes and costs are the path; the others are 0.
 pub struct Flow {
     pub number: u8,
     pub priority: u8,
@@ -28,18 +29,20 @@ pub struct Flow {
     pub costs: [u16; NODES],
 }
 
+// At most the horizon, 65,535.
 pub struct Figures {
     pub bound: u16,
     pub jitter: u16,
     pub busy: u16,
 }
 
-// Flows in rising number; places from count on are zero.
+// The first count flows, in rising number; the other places are zero.
 pub struct Row {
     pub flows: [Flow; FLOWS],
     pub count: usize,
 }
 
+// The figures stand at the places of their flows.
 pub struct Table {
     pub lmin: u16,
     pub lmax: u16,
@@ -47,6 +50,7 @@ pub struct Table {
     pub figures: [Figures; FLOWS],
 }
 
+// Refusals 1 to 13 in document 01's order, with the flow that 7, 8 and 10 name.
 pub enum Cause {
     Accepted,
     Delays,
@@ -70,6 +74,7 @@ pub struct Refusal {
     pub place: usize,
 }
 
+// The new table, or why not, the place in the plan, and the old table.
 pub struct Answer {
     pub cause: Cause,
     pub place: usize,
@@ -248,10 +253,10 @@ fn ranges_fit(f: Flow) -> bool
     unused_zero(f)
 }
 
-// Whether node i of the path is none of those after it.
-fn last_at(f: Flow, i: usize) -> bool
+// Whether node i does not come again on the path.
+fn not_again(f: Flow, i: usize) -> bool
     requires { ⌜ i < mostNodes ⌝ }
-    ensures { λ r. ⌜ r ≡ lastAt f i ⌝ }
+    ensures { λ r. ⌜ r ≡ notAgain f i ⌝ }
 {
     let n = path_end(f);
     let node = f.nodes[i];
@@ -271,7 +276,7 @@ fn nodes_differ(f: Flow) -> bool
     let n = path_end(f);
     let mut i = 0;
     while i < n {
-        if !last_at(f, i) {
+        if !not_again(f, i) {
             return false;
         }
         i += 1;
@@ -279,8 +284,10 @@ fn nodes_differ(f: Flow) -> bool
     true
 }
 
+// Refusals 2 to 4, the lowest number first. That f is typed is for callers who keep it in a list, where no type says so.
 pub fn flow_cause(f: Flow) -> Cause
     ensures { λ r. ⌜ r ≡ flowCause f ⌝ }
+    ensures { λ r. ⌜ Typed f ⌝ }
 {
     if f.number == 0 {
         return Cause::NumberZero;

@@ -2,3 +2,5 @@ pub mod Places
 pub mod Steps
 pub mod Puts
 pub mod Trips
+pub mod Refusals
+pub mod Cases

@@ -16,8 +16,8 @@ use Rattle.flows.specs.Lists.{mostFlows, held, rowOf}
 use Rattle.flows.specs.Tests.{delayCause, flowCause}
 use Rattle.row.specs.Rows.{appended, lastNumber}
 use Rattle.records.specs.declared.Links.{Links}
-use Rattle.records.specs.Kinds.{linksBody, linksRecord, flowBody, flowRecord}
-use Rattle.records.specs.Bodies.{linksRead, flowRead}
+use Rattle.records.specs.Kinds.{linksRecord, flowBody, flowRecord}
+use Rattle.records.specs.Bodies.{flowRead}
 use Rattle.plan.specs.declared.Kind.{Kind}
 use Rattle.plan.specs.declared.Kind.the-variants.{OfLinks, OfFlow, OfEnd, OfNone}
 use Rattle.plan.specs.declared.Reading.{Reading}
@@ -41,12 +41,9 @@ pub falls-order : (number last : ℕ) → (number ≡ 0 → ⊥) → leb number 
 unfolding fallsTo
 falls-order number last h = rw (ne-eqb _ _ h)
 
--- ---- the bodies, as the part from the byte after the kind to the record's end
+-- ---- a flow's body, as the part from the byte after the kind to the record's end
 pub flow-part : (b : List ℕ) (at : ℕ) (f : Flow) → f ≡ flowRead (take (at + flowRecord - (at + 1)) (drop (at + 1) b)) → f ≡ flowAt b at
 flow-part b at f e = let z : at + flowRecord - (at + 1) ≡ flowBody = omega arith in rw z at e
-
-pub links-part : (b : List ℕ) (at : ℕ) (l : Links) → l ≡ linksRead (take (at + linksRecord - (at + 1)) (drop (at + 1) b)) → l ≡ linksAt b at
-links-part b at l e = let z : at + linksRecord - (at + 1) ≡ linksBody = omega arith in rw z at e
 
 -- ---- the cause against a flow's record
 module _ (fs : List Flow) (f : Flow) (last : ℕ) (t : Bool) (e : last ≡ lastNumber fs) (g : t ≡ fallsTo (f .number) last) where
@@ -134,7 +131,7 @@ module _ (room lmin lmax : ℕ) (fs : List Flow) (b : List ℕ) (at : ℕ) where
   flows-at-flow h = rw (flows-is, h)
 
 -- a flow is accepted only where there is room
-pub has-room : (fs : List Flow) (f : Flow) → acceptedBy (recordCause fs f) ≡ true → length fs < mostFlows
+has-room : (fs : List Flow) (f : Flow) → acceptedBy (recordCause fs f) ≡ true → length fs < mostFlows
 unfolding recordCause
 has-room fs f h =
     go (fallsTo (f .number) (lastNumber fs)) (acceptedBy (flowCause f)) (leb mostFlows (length fs)) refl refl h
@@ -176,10 +173,10 @@ module _ (lmin lmax : ℕ) (row : Row) (b : List ℕ) (at : ℕ) (x : Reading) (
     flows-refused r m g = g ∙ rw (← l, not-true t m) at at-flow
 
     module _ (m : not t ≡ false) where
-      pub flows-room : length (held row) < mostFlows
+      flows-room : length (held row) < mostFlows
       flows-room = has-room (held row) f (rw (← j, ← l) (not-false t m))
 
-      pub flows-held : (next : Row) → next ≡ appended row f → next ≡ rowOf (held row ++ (f ∷ []))
+      flows-held : (next : Row) → next ≡ appended row f → next ≡ rowOf (held row ++ (f ∷ []))
       flows-held next g = g ∙ ap (λ (r : Row). appended r f) made ∙ append-list (held row) f flows-room
 
       pub flows-more : (next : Row) → next ≡ appended row f → readFlows (mostFlows - length (held next)) lmin lmax (held next) b (at + flowRecord) ≡ x
@@ -207,6 +204,25 @@ no-links OfLinks x y o = absurd (miss (1 ∷ 2 ∷ 3 ∷ []) 0 tt o)
 no-links OfFlow x y o = refl
 no-links OfEnd x y o = refl
 no-links OfNone x y o = refl
+
+-- what stands at place 0 decides
+module _ (b : List ℕ) where
+  pub plan-at-links : kindAt b 0 ≡ OfLinks →
+      readPlan b ≡ unless (delayCause (linksAt b 0 .lmin) (linksAt b 0 .lmax)) 0 (readAfterLinks (linksAt b 0 .lmin) (linksAt b 0 .lmax) b)
+  unfolding readPlan ifLinks
+  plan-at-links e = rw e
+
+  pub plan-at-flow : kindAt b 0 ≡ OfFlow → readPlan b ≡ refused Malformed 0
+  unfolding readPlan ifLinks
+  plan-at-flow e = rw e
+
+  pub plan-at-end : kindAt b 0 ≡ OfEnd → readPlan b ≡ refused Malformed 0
+  unfolding readPlan ifLinks
+  plan-at-end e = rw e
+
+  pub plan-at-none : kindAt b 0 ≡ OfNone → readPlan b ≡ refused Malformed 0
+  unfolding readPlan ifLinks
+  plan-at-none e = rw e
 
 module _ (b : List ℕ) (k : Kind) (r : Reading) (e : k ≡ kindAt b 0) where
   pub plan-other : OneOf (1 ∷ 2 ∷ 3 ∷ []) (tagOf the-type k) → r ≡ refused Malformed 0 → r ≡ readPlan b

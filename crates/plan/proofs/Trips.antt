@@ -1,39 +1,43 @@
 -- What is written and then read is the set that was written; what is read and then written is the bytes that were read.
-use Prim.Native.Nat.{ℕ, zero, suc, _+_, _-_, _≤_, _<_}
+use Prim.Native.Nat.{ℕ, zero, suc, _+_, _-_, _*_, _≤_, _<_}
 use mathlib.Core.Path.{_≡_, refl, sym, ap, _∙_}
-use mathlib.Core.Bool.{Bool, true, false, cond, _||_, and-false, false≢true}
+use mathlib.Core.Bool.{Bool, true, false, cond, not, _&&_, _||_, and-false, false≢true}
 use mathlib.Core.List.{List, [], _∷_, _++_, append-nil, append-assoc}
 use native.Mathlib.Numerals.{add-one}
 use native.Mathlib.Omega.{arith}
 use lib.ListN.{length, getD, take, drop, length-append, length-drop, take-append-drop, drop-of-length-le}
 use lib.Seq.{take-at, drop-append-add, drop-cons, drop-drop, getD-append-seam, getD-drop, append-snoc, length-take-le}
-use lib.Dec.{ltb}
-use borrow.Author.Tests.{le-ltb, lt-leb, ltb-false}
+use lib.Dec.{leb, ltb, eqb}
+use borrow.Author.Tests.{eqb-true, leb-false, le-ltb, lt-leb, ltb-false}
+use Rattle.rules.specs.Valid.{Valid}
 use Rattle.flows.specs.declared.Flow.{Flow}
 use Rattle.flows.specs.declared.Cause.{Cause}
 use Rattle.flows.specs.declared.Cause.the-variants.{Accepted, Delays, Full, Malformed}
 use Rattle.flows.specs.Refusals.{numberOf, acceptedBy}
-use Rattle.flows.specs.Lists.{mostFlows, noFlow, held, rowOf}
+use Rattle.flows.specs.Lists.{mostFlows, noFlow, held, rowOf, netOf}
 use Rattle.flows.specs.Tests.{mostDelay, delayCause, flowCause}
-use Rattle.flows.specs.WellFormed.{Each, each-more, Typed}
-use Rattle.row.specs.Rows.{lastNumber, Rising, rising-more}
+use Rattle.flows.specs.WellFormed.{Each, each-none, each-more, Typed}
+use Rattle.row.specs.Rows.{lastNumber, Rising, rising-none, rising-more}
 use Rattle.records.specs.declared.Links.{Links}
 use Rattle.records.specs.Kinds.{linksKind, linksBody, linksRecord, flowKind, flowBody, flowRecord, endKind}
 use Rattle.records.specs.Bodies.{flowRead, linksWritten, flowWritten}
 use Rattle.plan.specs.declared.Kind.{Kind}
-use Rattle.plan.specs.declared.Kind.the-variants.{OfLinks, OfFlow, OfEnd, OfNone}
+use Rattle.plan.specs.declared.Kind.the-variants.{OfLinks, OfFlow, OfEnd}
 use Rattle.plan.specs.declared.Reading.{Reading}
 use Rattle.plan.specs.Reading.{kindAt, flowAt, linksAt, refused, listed, unless, fallsTo, recordCause, readFlows, readAfterLinks, ifLinks, readPlan}
-use Rattle.plan.specs.Writing.{linksBytes, flowBytes, flowsBytes, planBytes}
+use Rattle.plan.specs.Writing.{linksBytes, flowBytes, flowsBytes, planBytes, planLength}
 use Rattle.plan.specs.Sets.{Readable}
+use Rattle.flows.proofs.Causes.{accepted-only}
+use Rattle.flows.proofs.Passed.{well-formed}
+use Rattle.row.proofs.Valid.{row-valid}
 use Rattle.row.proofs.Arrays.{held-rowOf, length-snoc}
 use Rattle.records.proofs.Writing.{length-flow}
-use Rattle.records.proofs.RoundTrip.{Bytes, flow-back, links-back, flow-again, links-again}
-use Rattle.plan.proofs.Places.{kind-end, kind-links, kind-flow, at-some, Whole, found, impossible}
-use Rattle.plan.proofs.Steps.{nextAfter, flows-at-none, flows-at-links, flows-at-end, flows-at-flow}
+use Rattle.records.proofs.RoundTrip.{Bytes, read-typed, flow-back, links-back, flow-again, links-again}
+use Rattle.plan.proofs.Places.{kind-end, kind-links, kind-flow, at-some, Whole, found}
+use Rattle.plan.proofs.Steps.{nextAfter, flows-at-none, flows-at-links, flows-at-end, flows-at-flow, plan-at-links, plan-at-flow, plan-at-end, plan-at-none}
 
 -- ---- written, then read
-pub last-snoc : (fs : List Flow) (f : Flow) → lastNumber (fs ++ (f ∷ [])) ≡ f .number
+last-snoc : (fs : List Flow) (f : Flow) → lastNumber (fs ++ (f ∷ [])) ≡ f .number
 unfolding lastNumber
 last-snoc fs f =
     let n : length (fs ++ (f ∷ [])) - 1 ≡ length fs = omega (arith, length-snoc fs f) in
@@ -168,13 +172,42 @@ refused-no : (r : Reading) (c : Cause) (place : ℕ) → r ≡ refused c place �
 unfolding refused
 refused-no r c place e h g = false≢true (sym h ∙ ap (λ (x : Reading). acceptedBy (x .cause)) (sym e) ∙ g)
 
--- the flows that an accepted reading found from a place on, and the bytes there
+-- the flows that an accepted reading found from a place on, what is known of them, and the bytes there
 record Found (lmin lmax : ℕ) (fs : List Flow) (b : List ℕ) (at : ℕ) (r : Reading) : Type 0 where
   rest : List Flow
   read : r ≡ listed lmin lmax (rowOf (fs ++ rest))
   bytes : drop at b ≡ flowsBytes rest ++ (endKind ∷ [])
+  rising : Rising (lastNumber fs) rest
+  count : length fs + length rest ≤ mostFlows
+  flows : Each (λ f. flowCause f ≡ Accepted) rest
+  typed : Each Typed rest
 
-module _ (room lmin lmax : ℕ) (fs : List Flow) (b : List ℕ) (at : ℕ) (u : Bytes b) where
+-- a flow's record that was accepted
+record Taken (fs : List Flow) (f : Flow) : Type 0 where
+  flow : flowCause f ≡ Accepted
+  rises : lastNumber fs < f .number
+  room : length fs < mostFlows
+
+taken : (fs : List Flow) (f : Flow) → Typed f → acceptedBy (recordCause fs f) ≡ true → Taken fs f
+unfolding recordCause fallsTo
+taken fs f t h =
+    go (eqb (f .number) 0) (leb (f .number) (lastNumber fs)) (acceptedBy (flowCause f)) (leb mostFlows (length fs)) refl refl refl refl h
+  where
+    go : (o p q r : Bool) → eqb (f .number) 0 ≡ o → leb (f .number) (lastNumber fs) ≡ p → acceptedBy (flowCause f) ≡ q → leb mostFlows (length fs) ≡ r →
+        acceptedBy (cond (not o && p) Malformed (cond q (cond r Full Accepted) (flowCause f))) ≡ true → Taken fs f
+    go false true q r i j k l g = absurd (false≢true g)
+    go true p false r i j k l g = absurd (false≢true (sym k ∙ g))
+    go false false false r i j k l g = absurd (false≢true (sym k ∙ g))
+    go true p true true i j k l g = absurd (false≢true g)
+    go false false true true i j k l g = absurd (false≢true g)
+    go true p true false i j k l g =
+        let n = well-formed f t (accepted-only (flowCause f) k) .number-least in
+        let z = eqb-true (f .number) 0 i in
+        absurd (omega arith)
+    go false false true false i j k l g =
+        record { flow = accepted-only (flowCause f) k; rises = leb-false _ _ j; room = leb-false _ _ l }
+
+module _ (room lmin lmax : ℕ) (fs : List Flow) (b : List ℕ) (at : ℕ) (u : Bytes b) (few : length fs ≤ mostFlows) where
   end-found : (r : Reading) → Whole b at endKind 0 → r ≡ cond (ltb (at + 1) (length b)) (refused Malformed (at + 1)) (listed lmin lmax (rowOf fs)) →
       acceptedBy (r .cause) ≡ true → Found lmin lmax fs b at r
   unfolding flowsBytes
@@ -189,11 +222,15 @@ module _ (room lmin lmax : ℕ) (fs : List Flow) (b : List ℕ) (at : ℕ) (u : 
             rest = [];
             read = g ∙ ap (λ (l : List Flow). listed lmin lmax (rowOf l)) (sym (append-nil fs));
             bytes = record-split b at endKind 0 w ∙ ap (λ (l : List ℕ). endKind ∷ l) z;
+            rising = rising-none;
+            count = omega arith;
+            flows = each-none;
+            typed = each-none;
           }
 
   flow-found : (r : Reading) → Whole b at flowKind flowBody →
       r ≡ unless (recordCause fs (flowAt b at)) at (nextAfter room lmin lmax fs b at) → acceptedBy (r .cause) ≡ true →
-      (acceptedBy (nextAfter room lmin lmax fs b at .cause) ≡ true →
+      (length (fs ++ (flowAt b at ∷ [])) ≤ mostFlows → acceptedBy (nextAfter room lmin lmax fs b at .cause) ≡ true →
       Found lmin lmax (fs ++ (flowAt b at ∷ [])) b (at + flowRecord) (nextAfter room lmin lmax fs b at)) →
       Found lmin lmax fs b at r
   unfolding unless flowsBytes
@@ -203,21 +240,27 @@ module _ (room lmin lmax : ℕ) (fs : List Flow) (b : List ℕ) (at : ℕ) (u : 
           r ≡ cond t (nextAfter room lmin lmax fs b at) (refused (recordCause fs (flowAt b at)) at) → Found lmin lmax fs b at r
       go false i g = absurd (refused-no r (recordCause fs (flowAt b at)) at g i h)
       go true i g =
-          let n = ih (rw g at h) in
           let f = flowAt b at in
+          let part : Bytes (take flowBody (drop (at + 1) b)) = bytes-take flowBody (drop (at + 1) b) (bytes-drop (at + 1) b u) in
           let y : flowWritten f ≡ take flowBody (drop (at + 1) b) =
-          flow-back (take flowBody (drop (at + 1) b)) (body-long b at flowKind flowBody w)
-          (bytes-take flowBody (drop (at + 1) b) (bytes-drop (at + 1) b u)) in
+          flow-back (take flowBody (drop (at + 1) b)) (body-long b at flowKind flowBody w) part in
+          let ty : Typed f = read-typed (take flowBody (drop (at + 1) b)) part in
+          let k = taken fs f ty i in
+          let n = ih (omega (arith, k .room, length-snoc fs f)) (rw g at h) in
           record {
             rest = f ∷ n .rest;
             read = g ∙ n .read ∙ ap (λ (l : List Flow). listed lmin lmax (rowOf l)) (append-snoc fs f (n .rest));
             bytes =
                 record-split b at flowKind flowBody w ∙ ap (λ (l : List ℕ). flowKind ∷ (l ++ drop (at + flowRecord) b)) (sym y) ∙
                 ap (λ (l : List ℕ). flowBytes f ++ l) (n .bytes) ∙ sym (append-assoc (flowBytes f) (flowsBytes (n .rest)) (endKind ∷ []));
+            rising = rising-more (k .rises) (rw (last-snoc fs f) at (n .rising));
+            count = omega (arith, n .count, length-snoc fs f);
+            flows = each-more (k .flow) (n .flows);
+            typed = each-more ty (n .typed);
           }
 
   record-found : acceptedBy (readFlows room lmin lmax fs b at .cause) ≡ true →
-      (acceptedBy (nextAfter room lmin lmax fs b at .cause) ≡ true →
+      (length (fs ++ (flowAt b at ∷ [])) ≤ mostFlows → acceptedBy (nextAfter room lmin lmax fs b at .cause) ≡ true →
       Found lmin lmax (fs ++ (flowAt b at ∷ [])) b (at + flowRecord) (nextAfter room lmin lmax fs b at)) →
       Found lmin lmax fs b at (readFlows room lmin lmax fs b at)
   record-found h ih =
@@ -227,12 +270,12 @@ module _ (room lmin lmax : ℕ) (fs : List Flow) (b : List ℕ) (at : ℕ) (u : 
       (λ w g. absurd (refused-no _ Malformed at (flows-at-links room lmin lmax fs b at g) refl h))
       (λ w g. flow-found (readFlows room lmin lmax fs b at) w (flows-at-flow room lmin lmax fs b at g) h ih)
 
-flows-found : (room lmin lmax : ℕ) (fs : List Flow) (b : List ℕ) (at : ℕ) → Bytes b → acceptedBy (readFlows room lmin lmax fs b at .cause) ≡ true →
+flows-found : (room lmin lmax : ℕ) (fs : List Flow) (b : List ℕ) (at : ℕ) → Bytes b → length fs ≤ mostFlows → acceptedBy (readFlows room lmin lmax fs b at .cause) ≡ true →
     Found lmin lmax fs b at (readFlows room lmin lmax fs b at)
 unfolding nextAfter
-flows-found zero lmin lmax fs b at u h = record-found zero lmin lmax fs b at u h (λ g. absurd (refused-no _ Full at refl refl g))
-flows-found (suc room) lmin lmax fs b at u h =
-    record-found (suc room) lmin lmax fs b at u h (λ g. flows-found room lmin lmax (fs ++ (flowAt b at ∷ [])) b (at + flowRecord) u g)
+flows-found zero lmin lmax fs b at u few h = record-found zero lmin lmax fs b at u few h (λ m g. absurd (refused-no _ Full at refl refl g))
+flows-found (suc room) lmin lmax fs b at u few h =
+    record-found (suc room) lmin lmax fs b at u few h (λ m g. flows-found room lmin lmax (fs ++ (flowAt b at ∷ [])) b (at + flowRecord) u m g)
 
 -- the set that an accepted plan lists, and its bytes
 pub record Lists (b : List ℕ) (r : Reading) : Type 0 where
@@ -241,24 +284,13 @@ pub record Lists (b : List ℕ) (r : Reading) : Type 0 where
   pub flows : List Flow
   pub read : r ≡ listed lmin lmax (rowOf flows)
   pub bytes : b ≡ planBytes lmin lmax flows
+  pub readable : Readable lmin lmax flows
 
 module _ (b : List ℕ) where
-  other-first : (k : Kind) → (k ≡ OfLinks → ⊥) → kindAt b 0 ≡ k → readPlan b ≡ refused Malformed 0
-  unfolding readPlan ifLinks
-  other-first OfLinks n e = absurd (n refl)
-  other-first OfFlow n e = rw e
-  other-first OfEnd n e = rw e
-  other-first OfNone n e = rw e
-
-  links-first : kindAt b 0 ≡ OfLinks →
-      readPlan b ≡ unless (delayCause (linksAt b 0 .lmin) (linksAt b 0 .lmax)) 0 (readAfterLinks (linksAt b 0 .lmin) (linksAt b 0 .lmax) b)
-  unfolding readPlan ifLinks
-  links-first e = rw e
-
   links-found : (r : Reading) → Bytes b → Whole b 0 linksKind linksBody →
       r ≡ unless (delayCause (linksAt b 0 .lmin) (linksAt b 0 .lmax)) 0 (readAfterLinks (linksAt b 0 .lmin) (linksAt b 0 .lmax) b) →
       acceptedBy (r .cause) ≡ true → Lists b r
-  unfolding unless planBytes
+  unfolding unless planBytes lastNumber
   links-found r u w e h = go (acceptedBy (delayCause l m)) refl e
     where
       l : ℕ
@@ -270,7 +302,7 @@ module _ (b : List ℕ) where
       go : (t : Bool) → acceptedBy (delayCause l m) ≡ t → r ≡ cond t (readAfterLinks l m b) (refused (delayCause l m) 0) → Lists b r
       go false i g = absurd (refused-no r (delayCause l m) 0 g i h)
       go true i g =
-          let n = flows-found mostFlows l m [] b linksRecord u (rw g at h) in
+          let n = flows-found mostFlows l m [] b linksRecord u (omega arith) (rw g at h) in
           let y : linksWritten l m ≡ take linksBody (drop 1 b) =
           links-back (take linksBody (drop 1 b)) (body-long b 0 linksKind linksBody w) (bytes-take linksBody (drop 1 b) (bytes-drop 1 b u)) in
           record {
@@ -281,15 +313,22 @@ module _ (b : List ℕ) where
             bytes =
                 record-split b 0 linksKind linksBody w ∙ ap (λ (x : List ℕ). linksKind ∷ (x ++ drop linksRecord b)) (sym y) ∙
                 ap (λ (x : List ℕ). linksBytes l m ++ x) (n .bytes) ∙ sym (append-assoc (linksBytes l m) (flowsBytes (n .rest)) (endKind ∷ []));
+            readable = record {
+              delays = accepted-only (delayCause l m) i;
+              rising = n .rising;
+              count = omega (arith, n .count);
+              flows = n .flows;
+              typed = n .typed;
+            };
           }
 
   pub plan-lists : Bytes b → acceptedBy (readPlan b .cause) ≡ true → Lists b (readPlan b)
   plan-lists u h =
       found b 0 (kindAt b 0) refl
-      (λ g. absurd (refused-no _ Malformed 0 (other-first OfNone (λ e. impossible (cc)) g) refl h))
-      (λ w g. absurd (refused-no _ Malformed 0 (other-first OfEnd (λ e. impossible (cc)) g) refl h))
-      (λ w g. links-found (readPlan b) u w (links-first g) h)
-      (λ w g. absurd (refused-no _ Malformed 0 (other-first OfFlow (λ e. impossible (cc)) g) refl h))
+      (λ g. absurd (refused-no _ Malformed 0 (plan-at-none b g) refl h))
+      (λ w g. absurd (refused-no _ Malformed 0 (plan-at-end b g) refl h))
+      (λ w g. links-found (readPlan b) u w (plan-at-links b g) h)
+      (λ w g. absurd (refused-no _ Malformed 0 (plan-at-flow b g) refl h))
 
   -- What is read and then written is the bytes that were read
   pub read-write : Bytes b → acceptedBy (readPlan b .cause) ≡ true →
@@ -298,3 +337,25 @@ module _ (b : List ℕ) where
       let s = plan-lists u h in
       ap (λ (r : Reading). planBytes (r .lmin) (r .lmax) (held (r .row))) (s .read) ∙
       ap (λ (fs : List Flow). planBytes (s .lmin) (s .lmax) fs) (held-rowOf (s .flows)) ∙ sym (s .bytes)
+
+-- ---- a set that a plan can list is a valid set of the rules, and each of its flows well formed
+pub readable-valid : (lmin lmax : ℕ) (fs : List Flow) → Readable lmin lmax fs → Valid (netOf lmin lmax (rowOf fs))
+readable-valid lmin lmax fs s = row-valid lmin lmax fs (delays-small lmin lmax (s .delays) .0) (s .rising) (s .flows) (s .typed)
+
+-- ---- the length of a plan
+flows-long : (fs : List Flow) → Each Typed fs → length (flowsBytes fs) ≡ flowRecord * length fs
+unfolding flowsBytes
+flows-long [] e = refl
+flows-long (f ∷ fs) (each-more t e) =
+    let n = flows-long fs e in
+    let l = length-flow f (t .nodes) (t .costs) in
+    omega (arith, length-append (flowBytes f) (flowsBytes fs))
+
+-- A table of n flows is written in 6 + 34 × n bytes
+pub plan-long : (lmin lmax : ℕ) (fs : List Flow) → Each Typed fs → length (planBytes lmin lmax fs) ≡ 6 + 34 * length fs
+unfolding planBytes
+plan-long lmin lmax fs e =
+    omega (arith, length-append (linksBytes lmin lmax ++ flowsBytes fs) (endKind ∷ []), length-append (linksBytes lmin lmax) (flowsBytes fs), flows-long fs e)
+
+pub plan-length : (n : ℕ) → planLength n ≡ 6 + 34 * n
+plan-length n = omega arith

@@ -4,17 +4,16 @@ use flows::FLOWS;
 use flows::Flow;
 use flows::Refusal;
 use flows::Row;
-use records::Links;
 ghost use mathlib.Core.Path.{_≡_};
 ghost use mathlib.Core.List.{_++_};
 ghost use Prim.Native.Nat.{_+_, _*_, _≤_};
 ghost use lib.ListN.{length, take, drop};
 ghost use Rattle.flows.specs.Lists.{held};
 ghost use Rattle.records.specs.Kinds.{linksRecord, flowRecord};
-ghost use Rattle.plan.specs.Reading.{kindOf, kindAt, linksAt, flowAt, refused, recordCause, readEnd, readAfterLinks, readPlan, fallsTo};
+ghost use Rattle.plan.specs.Reading.{kindOf, kindAt, flowAt, refused, recordCause, readEnd, readAfterLinks, readPlan, fallsTo};
 ghost use Rattle.plan.specs.Writing.{linksBytes, flowBytes, flowsBytes, writtenInto, bufferAfter};
 
-// Which whole record stands at a place of a plan.
+// The whole record at a place of a plan; OfNone where no kind byte is left, the kind is unknown or the body short.
 pub enum Kind {
     OfLinks,
     OfFlow,
@@ -37,6 +36,7 @@ pub enum Written {
     Refused(Refusal),
 }
 
+// Of a kind byte with left bytes after it.
 fn kind_of(kind: u8, left: usize) -> Kind
     ensures { λ r. ⌜ r ≡ kindOf kind left ⌝ }
 {
@@ -118,16 +118,7 @@ fn flow_at(plan: &[u8], at: usize) -> Flow
     records::read_flow(&plan[from..to])
 }
 
-fn links_at(plan: &[u8], at: usize) -> Links
-    requires { ⌜ at + linksRecord ≤ length (now plan) ⌝ }
-    ensures { λ r. ⌜ r ≡ linksAt (now (plan .entry)) at ⌝ }
-{
-    let from = at + 1;
-    let to = at + records::LINKS_RECORD;
-    records::read_links(&plan[from..to])
-}
-
-// The record that no flow is: the end and nothing after it, or a refusal.
+// A record that is no flow's: the end with nothing after it, or a refusal.
 fn read_end(plan: &[u8], at: usize, lmin: u16, lmax: u16, row: Row) -> Reading
     ensures { λ r. ⌜ r ≡ readEnd lmin lmax row (now (plan .entry)) at ⌝ }
 {
@@ -146,7 +137,7 @@ fn read_end(plan: &[u8], at: usize, lmin: u16, lmax: u16, row: Row) -> Reading
     }
 }
 
-// The records after the first.
+// The records after the first. Each body is whole, so where no kind byte is left, at is the plan's length.
 fn read_flows(plan: &[u8], lmin: u16, lmax: u16) -> Reading
     ensures { λ r. ⌜ r ≡ readAfterLinks lmin lmax (now (plan .entry)) ⌝ }
 {
@@ -167,13 +158,15 @@ fn read_flows(plan: &[u8], lmin: u16, lmax: u16) -> Reading
     read_end(plan, at, lmin, lmax, row)
 }
 
+// One 01, then 0 to 16 of 02 with rising numbers, then 7F, then nothing; records are judged in order.
 pub fn read(plan: &[u8]) -> Reading
     ensures { λ r. ⌜ r ≡ readPlan (now (plan .entry)) ⌝ }
 {
     let Kind::OfLinks = kind_at(plan, 0) else {
         return refuse(Cause::Malformed, 0);
     };
-    let links = links_at(plan, 0);
+    let to = records::LINKS_RECORD;
+    let links = records::read_links(&plan[1..to]);
     let cause = flows::delay_cause(links.lmin, links.lmax);
     if !flows::accepted(cause) {
         return refuse(cause, 0);
@@ -224,11 +217,12 @@ pub fn write(buffer: &mut [u8], lmin: u16, lmax: u16, row: Row) -> Written
     ensures { λ r. ⌜ now (buffer .exit) ≡ bufferAfter lmin lmax (held row) (now (buffer .entry)) ⌝ }
 {
     let end = records::LINKS_RECORD + records::FLOW_RECORD * row::size(row);
-    if buffer.len() < end + 1 {
+    let size = end + 1;
+    if buffer.len() < size {
         return Written::Refused(flows::refuse(Cause::ShortBuffer, 0));
     }
     put_links(buffer, lmin, lmax);
     put_flows(buffer, row);
     buffer[end] = records::END_KIND;
-    Written::Length(end + 1)
+    Written::Length(size)
 }

@@ -14,7 +14,7 @@ use Rattle.records.specs.Bodies.{bytesFrom, wordsFrom, linksRead, flowRe
 abbrev pub Bytes : List ℕ → Type 0
 Bytes b = (k : ℕ) → getD b k 0 < 256
 
-pub high-low : (x : ℕ) → x < 65536 → x / 256 % 256 * 256 + x % 256 ≡ x
+high-low : (x : ℕ) → x < 65536 → x / 256 % 256 * 256 + x % 256 ≡ x
 high-low x h = omega arith
 
 high-of : (x y : ℕ) → x < 256 → y < 256 → (x * 256 + y) / 256 % 256 ≡ x
@@ -75,7 +75,7 @@ read-typed b u = record {
   period = word (u 2) (u 3);
   jitter = word (u 4) (u 5);
   deadline = word (u 6) (u 7);
-  long = u 8;
+  path = u 8;
   nodes = refl;
   costs = refl;
   node = bytes-below 9 flowNodes;

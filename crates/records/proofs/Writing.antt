@@ -33,7 +33,7 @@ module _ (nodes old out : List ℕ) (k : ℕ) (ln : length nodes ≡ flowNodes) 
   nodes-end h = inv ∙ rw (take-all k nodes (omega arith), drop-of-length-le old {i = k} (omega arith)) (append-nil nodes)
 
 -- ---- the costs, two bytes each
-pub length-words : (l : List ℕ) → length (wordsWritten l) ≡ 2 * length l
+length-words : (l : List ℕ) → length (wordsWritten l) ≡ 2 * length l
 unfolding wordsWritten
 length-words [] = refl
 length-words (x ∷ l) = let h = length-words l in omega arith

@@ -1,3 +1,4 @@
 pub mod Arrays
 pub mod Parts
 pub mod Sets
+pub mod Valid

@@ -1,18 +1,23 @@
 -- Rows in rising number: kept by insertion and removal, determined by their flows, and undone.
-use Prim.Native.Nat.{ℕ, _≤_, _<_}
+use Prim.Native.Nat.{ℕ, suc, _≤_, _<_}
 use mathlib.Core.Path.{_≡_, refl, sym, ap, _∙_}
-use mathlib.Core.Bool.{Bool, true, false, cond}
+use mathlib.Core.Bool.{Bool, true, false, cond, false≢true}
 use mathlib.Core.List.{List, [], _∷_, List·Memᴰ, List·Memᴰ·head, List·Memᴰ·tail, List·Memᴰ·not-nil, List·Memᴰ·cases-cons}
 use mathlib.Core.Logic.{_⊎_, inl, inr, ⊎-elim}
 use native.Mathlib.Omega.{arith}
 use native.Mathlib.Nat.{eq-or-lt-of-le}
-use lib.ListN.{length}
-use lib.Dec.{eqb, ltb}
-use borrow.Author.Tests.{eq-eqb, ne-eqb, eqb-true, eqb-false, ltb-true, ltb-false, lt-leb}
+use lib.ListN.{length, getD}
+use lib.Dec.{eqb, leb, ltb}
+use borrow.Author.Tests.{eq-eqb, ne-eqb, eqb-true, eqb-false, ltb-true, ltb-false, leb-false, lt-leb}
 use Rattle.flows.specs.declared.Flow.{Flow}
 use Rattle.flows.specs.Lists.{mostFlows, held, rowOf}
-use Rattle.flows.specs.WellFormed.{Each, each-more}
-use Rattle.row.specs.Rows.{insertSorted, without, inserted, Rising, rising-none, rising-more}
+use Rattle.flows.specs.declared.Cause.the-variants.{Accepted, Present, Full}
+use Rattle.flows.specs.Refusals.{acceptedBy}
+use Rattle.flows.specs.Tests.{flowCause}
+use Rattle.flows.specs.WellFormed.{Each, each-none, each-more}
+use Rattle.row.specs.declared.Found.the-variants.{At, Nothing}
+use Rattle.row.specs.Rows.{firstOf, placeOf, foundIn, insertSorted, without, inserted, entryCause, Rising, rising-none, rising-more}
+use Rattle.flows.proofs.Causes.{accepted-only}
 use Rattle.row.proofs.Arrays.{held-rowOf}
 
 -- no flow of that number
@@ -174,3 +179,84 @@ pub remove-insert : (f : Flow) (fs : List Flow) → length fs < mostFlows → La
 unfolding inserted
 remove-insert f fs h a =
     ap rowOf (rw (held-rowOf fs, lt-leb mostFlows (length fs) h, held-rowOf (insertSorted f fs)) (without-insert f fs a))
+
+-- ---- what holds of each flow still does
+module _ (P : Flow → Type 0) where
+  pub insert-each : (f : Flow) (fs : List Flow) → P f → Each P fs → Each P (insertSorted f fs)
+  unfolding insertSorted
+  insert-each f [] p e = each-more p each-none
+  insert-each f (g ∷ gs) p (each-more q e) = go (ltb (f .number) (g .number)) (insert-each f gs p e)
+    where
+      go : (b : Bool) → Each P (insertSorted f gs) → Each P (cond b (f ∷ g ∷ gs) (g ∷ insertSorted f gs))
+      go true ih = each-more p (each-more q e)
+      go false ih = each-more q ih
+
+  pub without-each : (number : ℕ) (fs : List Flow) → Each P fs → Each P (without number fs)
+  unfolding without
+  without-each number [] e = each-none
+  without-each number (f ∷ fs) (each-more p e) = go (eqb (f .number) number) (without-each number fs e)
+    where
+      go : (b : Bool) → Each P (without number fs) → Each P (cond b fs (f ∷ without number fs))
+      go true ih = e
+      go false ih = each-more p ih
+
+-- ---- what an answer says of the row
+lacks-all : (number : ℕ) (fs : List Flow) → length fs ≤ placeOf number fs → Lacks number fs
+unfolding firstOf
+lacks-all number [] h = each-none
+lacks-all number (f ∷ fs) h = go (eqb (f .number) number) refl h (λ i. lacks-all number fs i)
+  where
+    go : (b : Bool) → eqb (f .number) number ≡ b → suc (length fs) ≤ cond b 0 (suc (placeOf number fs)) → (length fs ≤ placeOf number fs → Lacks number fs) →
+        Lacks number (f ∷ fs)
+    go true e i ih = absurd (omega arith)
+    go false e i ih = each-more (eqb-false (f .number) number e) (ih (omega arith))
+
+at-place : (number : ℕ) (fs : List Flow) (d : Flow) → placeOf number fs < length fs → getD fs (placeOf number fs) d .number ≡ number
+unfolding firstOf
+at-place number [] d h = absurd (omega arith)
+at-place number (f ∷ fs) d h = go (eqb (f .number) number) refl h (λ i. at-place number fs d i)
+  where
+    go : (b : Bool) → eqb (f .number) number ≡ b → cond b 0 (suc (placeOf number fs)) < suc (length fs) →
+        (placeOf number fs < length fs → getD fs (placeOf number fs) d .number ≡ number) →
+        getD (f ∷ fs) (cond b 0 (suc (placeOf number fs))) d .number ≡ number
+    go true e i ih = eqb-true (f .number) number e
+    go false e i ih = ih (omega arith)
+
+pub found-nothing : (fs : List Flow) (number : ℕ) → foundIn fs number ≡ Nothing → Lacks number fs
+unfolding foundIn
+found-nothing fs number h = go (ltb (placeOf number fs) (length fs)) refl h
+  where
+    go : (b : Bool) → ltb (placeOf number fs) (length fs) ≡ b → cond b (At (placeOf number fs)) Nothing ≡ Nothing → Lacks number fs
+    go true e i = let z : _≡_ {A = ℕ} 0 1 = cc in absurd (omega arith)
+    go false e i = lacks-all number fs (ltb-false _ _ e)
+
+pub found-flow : (fs : List Flow) (number at : ℕ) (d : Flow) → foundIn fs number ≡ At at → (at < length fs) × (getD fs at d .number ≡ number)
+unfolding foundIn
+found-flow fs number at d h = go (ltb (placeOf number fs) (length fs)) refl h
+  where
+    go : (b : Bool) → ltb (placeOf number fs) (length fs) ≡ b → cond b (At (placeOf number fs)) Nothing ≡ At at →
+        (at < length fs) × (getD fs at d .number ≡ number)
+    go true e i =
+        let p : placeOf number fs ≡ at = cc in
+        let l = ltb-true (placeOf number fs) (length fs) e in
+        (rw (← p) l, rw (← p) (at-place number fs d l))
+    go false e i = let z : _≡_ {A = ℕ} 0 1 = cc in absurd (omega arith)
+
+-- refusals 2 to 6 do not apply
+pub record Enters (fs : List Flow) (f : Flow) : Type 0 where
+  pub flow : flowCause f ≡ Accepted
+  pub lacks : Lacks (f .number) fs
+  pub room : length fs < mostFlows
+
+pub enters : (fs : List Flow) (f : Flow) → entryCause fs f ≡ Accepted → Enters fs f
+unfolding entryCause
+enters fs f h =
+    go (acceptedBy (flowCause f)) (ltb (placeOf (f .number) fs) (length fs)) (leb mostFlows (length fs)) refl refl refl h
+  where
+    go : (p q r : Bool) → acceptedBy (flowCause f) ≡ p → ltb (placeOf (f .number) fs) (length fs) ≡ q → leb mostFlows (length fs) ≡ r →
+        cond p (cond q Present (cond r Full Accepted)) (flowCause f) ≡ Accepted → Enters fs f
+    go true true r i j k g = let z : _≡_ {A = ℕ} 0 1 = cc in absurd (omega arith)
+    go true false true i j k g = let z : _≡_ {A = ℕ} 0 1 = cc in absurd (omega arith)
+    go true false false i j k g =
+        record { flow = accepted-only (flowCause f) i; lacks = lacks-all (f .number) fs (ltb-false _ _ j); room = leb-false _ _ k }
+    go false q r i j k g = absurd (false≢true (sym i ∙ ap acceptedBy g))

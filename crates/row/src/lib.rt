@@ -9,6 +9,7 @@ ghost use Prim.Native.Nat.{_+_, _-_, _≤_, _<_};
 ghost use lib.ListN.{length, take, drop};
 ghost use Rattle.flows.specs.declared.Flow.{Flow};
 ghost use Rattle.flows.specs.Lists.{mostFlows, held, rowOf};
+ghost use Rattle.flows.specs.WellFormed.{Typed};
 ghost use Rattle.row.specs.Rows.{placeOf, rankOf, foundIn, without, inserted, appended, lastNumber, entryCause};
 
 pub enum Found {
@@ -151,9 +152,10 @@ pub fn last_number(row: Row) -> u8
     f.number
 }
 
-// Refusals 2 to 6, the lowest number first.
+// Refusals 2 to 6, the lowest number first; f is typed, as flow_cause says.
 pub fn entry_cause(row: Row, f: Flow) -> Cause
     ensures { λ r. ⌜ r ≡ entryCause (held row) f ⌝ }
+    ensures { λ r. ⌜ Typed f ⌝ }
 {
     let cause = flows::flow_cause(f);
     if !flows::accepted(cause) {

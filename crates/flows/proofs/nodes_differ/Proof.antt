@@ -19,8 +19,8 @@ path-end-requires c κs = search needs
 loop-holds : tie.Need-loop-holds Inv-loop μ-loop
 loop-holds c = (search needs, refl)
 
-last-at-requires : tie.Need-last-at-requires Inv-loop μ-loop
-last-at-requires c κs = search needs
+not-again-requires : tie.Need-not-again-requires Inv-loop μ-loop
+not-again-requires c κs = search needs
 
 returns : tie.Need-returns Inv-loop μ-loop
 returns c = search (differ-fails, length-unmapped)
@@ -45,7 +45,7 @@ nodes-differ-spec =
     μ-loop
     path-end-requires
     loop-holds
-    last-at-requires
+    not-again-requires
     returns
     add-i
     loop-less

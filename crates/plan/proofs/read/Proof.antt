@@ -17,8 +17,17 @@ refuse-requires c κs = search needs
 returns : tie.Need-returns
 returns c = search plan-other
 
-links-at-requires : tie.Need-links-at-requires
-links-at-requires c κs = omega (arith, whole-links _ _ _ (c .before .before .kind-at .ensures) (c .enum-told .given .1))
+sub-read-links : tie.Need-sub-read-links
+sub-read-links c = search needs
+
+part-read-links-start : tie.Need-part-read-links-start
+part-read-links-start c = search needs
+
+part-read-links-end : tie.Need-part-read-links-end
+part-read-links-end c = omega (arith, whole-links _ _ _ (c .before .before .kind-at .ensures) (c .enum-told .given .1))
+
+read-links-requires : tie.Need-read-links-requires
+read-links-requires c κs = search needs
 
 delay-cause-requires : tie.Need-delay-cause-requires
 delay-cause-requires c κs = search needs
@@ -46,7 +55,10 @@ read-spec =
     enum-told
     refuse-requires
     returns
-    links-at-requires
+    sub-read-links
+    part-read-links-start
+    part-read-links-end
+    read-links-requires
     delay-cause-requires
     accepted-requires
     refuse-requires-2

@@ -14,8 +14,8 @@ mul-end c = search needs
 add-end : tie.Need-add-end
 add-end c = search needs
 
-add-if1 : tie.Need-add-if1
-add-if1 c = search needs
+add-size : tie.Need-add-size
+add-size c = search needs
 
 refuse-requires : tie.Need-refuse-requires
 refuse-requires c κs = search needs
@@ -32,9 +32,6 @@ put-flows-requires c κs = search needs
 slice-write-buffer : tie.Need-slice-write-buffer
 slice-write-buffer c = search needs
 
-add-t6 : tie.Need-add-t6
-add-t6 c = search needs
-
 same-length : tie.Need-same-length
 same-length c = simp length-set (omega arith)
 
@@ -48,12 +45,11 @@ write-spec =
     size-requires
     mul-end
     add-end
-    add-if1
+    add-size
     refuse-requires
     returns
     put-links-requires
     put-flows-requires
     slice-write-buffer
-    add-t6
     same-length
     returns-2)

@@ -10,7 +10,7 @@ accepted-requires : tie.Need-accepted-requires
 accepted-requires c κs = search needs
 
 returns : tie.Need-returns
-returns c = search entry-refused
+returns c = (search entry-refused, search needs)
 
 find-requires : tie.Need-find-requires
 find-requires c κs = search needs
@@ -22,16 +22,16 @@ enum-told-2 : tie.Need-enum-told-2
 enum-told-2 c = search needs
 
 returns-2 : tie.Need-returns-2
-returns-2 c = search entry-present
+returns-2 c = (search entry-present, search needs)
 
 size-requires : tie.Need-size-requires
 size-requires c κs = search needs
 
 returns-3 : tie.Need-returns-3
-returns-3 c = search entry-full
+returns-3 c = (search entry-full, search needs)
 
 returns-4 : tie.Need-returns-4
-returns-4 c = search entry-accepted
+returns-4 c = (search entry-accepted, search needs)
 
 pub entry-cause-spec : {M : Type 1} → statement M
 entry-cause-spec =

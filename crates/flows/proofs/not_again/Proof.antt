@@ -4,8 +4,8 @@ use lib.ListN.{drop}
 use borrow.Author.Needs.{length-unmapped, needs}
 use Rattle.flows.specs.Tests.{newTo, nodesOf}
 use Rattle.flows.proofs.Loops.{later-more, later-fails, later-end}
-use Rattle.flows.proofs.last_at.Statement.{statement}
-use Rattle.flows.proofs.last_at.Tie as tie
+use Rattle.flows.proofs.not_again.Statement.{statement}
+use Rattle.flows.proofs.not_again.Tie as tie
 
 abbrev Inv-loop : tie.InvT-loop
 Inv-loop i f n node k₀ k = newTo (drop k (nodesOf f)) node ≡ newTo (drop k₀ (nodesOf f)) node
@@ -43,8 +43,8 @@ loop-again c = search (later-more, length-unmapped)
 returns-2 : tie.Need-returns-2 Inv-loop μ-loop
 returns-2 c = search (later-end, length-unmapped)
 
-pub last-at-spec : {M : Type 1} → statement M
-last-at-spec =
+pub not-again-spec : {M : Type 1} → statement M
+not-again-spec =
     tie.close
     (tie.spec
     Inv-loop
