@@ -1,0 +1,2 @@
+pub mod Nets
+pub mod Kept

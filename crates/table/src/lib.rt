@@ -1,0 +1,1 @@
+// The table: made, enlarged, made smaller, asked.
