@@ -1,2 +1,7 @@
 pub mod Nets
 pub mod Kept
+pub mod Figures
+pub mod Sets
+pub mod Calls
+pub mod Withdrawals
+pub mod Refusals

@@ -66,5 +66,5 @@ unfoldable pub askedBy : Table → Found → Asked
 askedBy t Nothing = Refused (refusalOf Absent 0)
 askedBy t (At place) = Given (getD (t .figures) place noFigures)
 
-unfoldable pub asked : Table → ℕ → Asked
-asked t number = askedBy t (foundIn (held (t .row)) number)
+unfoldable pub askedFor : Table → ℕ → Asked
+askedFor t number = askedBy t (foundIn (held (t .row)) number)
