@@ -68,7 +68,7 @@ first-or-none p (i ∷ l) r = go (p i) refl (first-or-none p l (r .1))
 
 module _ (N : Net) where
   -- a test that tells the flows at fault decides the lowest refusal
-  lowest-first : (k : ℕ) (AtFault : Flow → Type 0) (Next : Judgement → Type 0) (p : Flow → Bool) → RisingNumbers (N .flows) →
+  pub lowest-first : (k : ℕ) (AtFault : Flow → Type 0) (Next : Judgement → Type 0) (p : Flow → Bool) → RisingNumbers (N .flows) →
       ((i : Flow) → Here N i → p i ≡ true → AtFault i) → ((i : Flow) → Here N i → p i ≡ false → AtFault i → ⊥) →
       (other : Judgement) → (((i : Flow) → Here N i → p i ≡ false) → Next other) → Lowest N k AtFault Next (firstOr p (Refused k) (N .flows) other)
   lowest-first k AtFault Next p r fault clear other next = elim (first-or-none p (N .flows) r) [
@@ -89,7 +89,7 @@ module _ (N : Net) where
           go true e = e
           go false e = absurd (clear j m e bad)
 
-  figures-are : (S : Arrivals) → Valid N → (i : Flow) → Here N i → Ready N i → IsFigures N S i (figures N S i)
+  pub figures-are : (S : Arrivals) → Valid N → (i : Flow) → Here N i → Ready N i → IsFigures N S i (figures N S i)
   unfolding figures
   figures-are S v i m r = record {
     bound = response-is N i r S (lastNode (i .path)) (last-visited (i .path) (v .flows i m .nodes));
