@@ -1,4 +1,4 @@
-use mathlib.Core.Path.{_≡_, refl}
+use mathlib.Core.Path.{refl}
 use Prim.Native.Nat.{_<_}
 use Rattle.entries.proofs.Sides.{links-most}
 use borrow.Author.Needs.{needs}
