@@ -1,4 +1,5 @@
 // The draft that settling works on: everything of the formula that hangs on no response bound, worked out once.
+use flows::FLOWS;
 use flows::Flow;
 use flows::Row;
 use pairs::Side;
@@ -12,7 +13,7 @@ ghost use Prim.Native.Nat.{ℕ, _+_, _≤_, _<_};
 ghost use lib.ListN.{length};
 ghost use Rattle.least.specs.Fold.{anyOf};
 ghost use Rattle.rules.specs.Valid.{Valid};
-ghost use Rattle.flows.specs.Lists.{mostFlows, flowOf, held};
+ghost use Rattle.flows.specs.Lists.{mostFlows, mostNodes, flowOf, held};
 ghost use Rattle.sums.specs.Whole.{netWith};
 ghost use Rattle.starts.specs.Sheet.{values};
 ghost use Rattle.sheets.specs.Fields.{HalfSmall};
@@ -20,11 +21,14 @@ ghost use Rattle.sheets.specs.Setup.{Setup};
 ghost use Rattle.drafts.specs.Cells.{alone, entryCell, blockCell, cellAt, CellsAre, IsFlow, IsPlace};
 ghost use Rattle.drafts.specs.Reading.{readsOf, readsOwn, reads, readAt};
 
+// A place for each two flows.
+pub const PAIRS: usize = 256;
+
 // A number of the draft, and the places of two response bounds to be added.
-pub struct Cell {
-    pub number: u64,
-    pub first: u8,
-    pub second: u8,
+struct Cell {
+    number: u64,
+    first: u8,
+    second: u8,
 }
 
 fn number_alone(number: u64) -> Cell
@@ -180,8 +184,8 @@ fn read_at(row: Row, k: usize) -> u64
     ensures { λ r. ⌜ r ≤ 1 ⌝ }
 {
     let n = row::size(row);
-    let b = k / 16;
-    let a = k % 16;
+    let b = k / FLOWS;
+    let a = k % FLOWS;
     if n <= b {
         return 0;
     }
@@ -194,12 +198,12 @@ fn read_at(row: Row, k: usize) -> u64
     0
 }
 
-fn all_reads(row: Row) -> [u64; 256]
+fn all_reads(row: Row) -> [u64; PAIRS]
     ensures { λ r. ⌜ ((k : ℕ) → k < 256 → values r k ≡ readAt (map flowOf (held row)) k) ⌝ }
 {
-    let mut table = [0u64; 256];
+    let mut table = [0u64; PAIRS];
     let mut k: usize = 0;
-    while k < 256 {
+    while k < PAIRS {
         table[k] = read_at(row, k);
         k += 1;
     }
@@ -211,10 +215,10 @@ pub struct Draft {
     pub nums: [u64; DRAFT],
     pub from: [u8; DRAFT],
     pub also: [u8; DRAFT],
-    pub lengths: [u64; 16],
-    pub busies: [u64; 16],
-    pub priorities: [u64; 16],
-    pub reads: [u64; 256],
+    pub lengths: [u64; FLOWS],
+    pub busies: [u64; FLOWS],
+    pub priorities: [u64; FLOWS],
+    pub reads: [u64; PAIRS],
     pub n: usize,
 }
 
@@ -222,7 +226,7 @@ pub fn prepare(row: Row, lmin: u16, lmax: u16) -> Draft
     ensures { λ r. ⌜ (Valid (netWith row lmin lmax) → Setup (netWith row lmin lmax) (r .nums) (r .from) (r .also) (r .lengths) (r .busies) (r .reads) (r .n)) ⌝ }
     ensures { λ r. ⌜ (r .n ≡ length (held row)) × (r .n ≤ mostFlows) ⌝ }
     ensures { λ r. ⌜ HalfSmall (r .nums) ⌝ }
-    ensures { λ r. ⌜ ((a : ℕ) → values (r .lengths) a ≤ 8) ⌝ }
+    ensures { λ r. ⌜ ((a : ℕ) → values (r .lengths) a ≤ mostNodes) ⌝ }
     ensures { λ r. ⌜ ((a : ℕ) → values (r .busies) a ≤ 65536) ⌝ }
 {
     let n = row::size(row);
@@ -231,9 +235,9 @@ pub fn prepare(row: Row, lmin: u16, lmax: u16) -> Draft
     let from = cells.from;
     let also = cells.also;
     let reads = all_reads(row);
-    let mut lengths = [0u64; 16];
-    let mut busies = [0u64; 16];
-    let mut priorities = [0u64; 16];
+    let mut lengths = [0u64; FLOWS];
+    let mut busies = [0u64; FLOWS];
+    let mut priorities = [0u64; FLOWS];
     let mut a: usize = 0;
     while a < n {
         let i = sums::flow_at(row, a);

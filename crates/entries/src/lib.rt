@@ -1,5 +1,6 @@
 // What a draft holds, field by field: of flow j on the sheet of i, at the node h with the prefix up to it.
 use flows::Flow;
+use flows::NODES;
 use flows::Row;
 use pairs::Side;
 use starts::HERE;
@@ -41,7 +42,7 @@ fn source_at(a: usize, f: Flow, node: u8) -> u8
     if at == 0 {
         return NOWHERE;
     }
-    (a * 8 + at - 1) as u8
+    (a * NODES + at - 1) as u8
 }
 
 fn slot_at(i: Flow, node: u8, h: u8) -> u64
