@@ -5,7 +5,9 @@ use Prim.Native.Nat.{ℕ, _+_, _≤_, _<_}
 use native.Mathlib.Omega.{arith}
 use lib.Dec.{ltb}
 use borrow.Author.Count.{below-more}
-use borrow.Author.Tests.{lt-ltb, le-ltb}
+use borrow.Author.Tests.{lt-ltb, le-ltb, ltb-false}
+use Rattle.starts.specs.Sheet.{mostTime, values}
+use Rattle.starts.specs.Runs.{LowTo}
 use lib.ListN.{List·getD-map}
 use Rattle.rules.specs.Judge.{misplaced}
 use Rattle.flows.specs.declared.Flow.{Flow}
@@ -49,3 +51,7 @@ module _ (row : Row) (figures : List Figures) (k : ℕ) (f : Flow) (at : f ≡ p
 
   pub timely-at : boundAt figures k ≤ f .deadline → ltb (deadlineAt row k) (boundAt figures k) ≡ false
   timely-at h = le-ltb _ _ (subst (λ i. boundAt figures k ≤ i .deadline) at h)
+
+-- no flow is without a busy length
+pub none-overloaded : (busies : List ℕ) (n r : ℕ) → FirstIs (λ k. ltb mostTime (values busies k)) n r → n ≤ r → LowTo n busies
+none-overloaded busies n r i h a q = ltb-false mostTime (values busies a) (i .before a (omega arith))

@@ -11,7 +11,10 @@ use Rattle.flows.specs.declared.Figures.{Figures}
 use Rattle.flows.specs.declared.Row.{Row}
 use Rattle.flows.specs.Lists.{mostNodes, noFlow, pathOf, held}
 use Rattle.starts.specs.Sheet.{values}
-use Rattle.engine.specs.Verdicts.{noFigures}
+use lib.Dec.{ltb}
+use Rattle.flows.specs.declared.Cause.the-variants.{Accepted, PastDeadline}
+use Rattle.engine.specs.declared.Verdict.{Verdict}
+use Rattle.engine.specs.Verdicts.{noFigures, refused}
 
 -- r is the first below n that fails a test, or n if none does
 pub record FirstIs (p : ℕ → Bool) (n r : ℕ) : Type 0 where
@@ -41,3 +44,10 @@ deadlineAt row k = placed row k .deadline
 
 abbrev pub boundAt : List Figures → ℕ → ℕ
 boundAt figures k = getD figures k noFigures .bound
+
+-- 10 for the first flow whose bound is past its deadline, or accepted with these figures
+pub record DeadlinesIs (row : Row) (figures : List Figures) (r : Verdict) : Type 0 where
+  pub at : ℕ
+  pub first : FirstIs (λ k. ltb (deadlineAt row k) (boundAt figures k)) (length (held row)) at
+  pub late : at < length (held row) → r ≡ refused (PastDeadline (placed row at .number))
+  pub timely : length (held row) ≤ at → r ≡ record { cause = Accepted; figures = figures }

@@ -7,19 +7,19 @@ use flows::NODES;
 use flows::Row;
 use sheets::PLACES;
 ghost use mathlib.Core.Path.{_≡_};
-ghost use Prim.Native.Nat.{ℕ, _-_, _*_, _≤_};
+ghost use Prim.Native.Nat.{ℕ, _-_, _*_, _≤_, _<_};
 ghost use lib.Dec.{ltb};
 ghost use lib.ListN.{length};
 ghost use Rattle.least.specs.Fold.{sumOf};
 ghost use Rattle.rules.specs.Formula.{least};
 ghost use Rattle.rules.specs.Valid.{Valid};
-ghost use Rattle.rules.specs.Judge.{misplaced};
+ghost use Rattle.rules.specs.Judge.{misplaced, loadJudged};
 ghost use Rattle.flows.specs.Lists.{mostFlows, pathOf, held, netOf};
 ghost use Rattle.starts.specs.Sheet.{mostTime, values};
-ghost use Rattle.starts.specs.Runs.{Low};
+ghost use Rattle.starts.specs.Runs.{Low, LowTo};
 ghost use Rattle.sheets.specs.Fields.{flowAt};
-ghost use Rattle.engine.specs.Verdicts.{noFigures, refused, verdictOf};
-ghost use Rattle.engine.specs.Firsts.{FirstIs, figureOf, FiguresUpTo, deadlineAt, boundAt};
+ghost use Rattle.engine.specs.Verdicts.{noFigures, refused, verdictFrom, verdictOf};
+ghost use Rattle.engine.specs.Firsts.{FirstIs, placed, figureOf, FiguresUpTo, deadlineAt, boundAt, DeadlinesIs};
 
 // Accepted with the figures of each flow in the row's order; or the refusal, and figures of 0.
 pub struct Verdict {
@@ -117,7 +117,7 @@ fn last_place(f: Flow) -> usize
 
 // The figures of each flow, from the response bounds and the busy lengths.
 fn figures_of(row: Row, lmin: u16, replies: [u64; PLACES], busies: [u64; FLOWS]) -> [Figures; FLOWS]
-    requires { ⌜ Low replies × Low busies ⌝ }
+    requires { ⌜ Low replies × LowTo (length (held row)) busies ⌝ }
     ensures { λ r. ⌜ FiguresUpTo row lmin replies busies (length (held row)) r ⌝ }
 {
     let n = row::size(row);
@@ -150,4 +150,65 @@ fn first_late(row: Row, figures: [Figures; FLOWS]) -> usize
         k += 1;
     }
     k
+}
+
+fn number_at(row: Row, k: usize) -> u8
+    requires { ⌜ k < length (held row) ⌝ }
+    ensures { λ r. ⌜ r ≡ placed row k .number ⌝ }
+{
+    let f = sums::flow_at(row, k);
+    f.number
+}
+
+// 10, or accepted.
+fn judge_figures(row: Row, figures: [Figures; FLOWS]) -> Verdict
+    ensures { λ r. ⌜ DeadlinesIs row figures r ⌝ }
+{
+    let late = first_late(row, figures);
+    if late < row::size(row) {
+        return refuse(Cause::PastDeadline(number_at(row, late)));
+    }
+    Verdict {
+        cause: Cause::Accepted,
+        figures,
+    }
+}
+
+// 8, 9 or 10, or accepted.
+fn judge_load(row: Row, lmin: u16, lmax: u16) -> Verdict
+    ensures { λ r. ⌜ (Valid (netOf lmin lmax row) → r ≡ verdictFrom (loadJudged (netOf lmin lmax row))) ⌝ }
+{
+    let draft = drafts::prepare(row, lmin, lmax);
+    let n = draft.n;
+    let busies = draft.busies;
+    let overload = first_overload(&busies, n);
+    if overload < n {
+        return refuse(Cause::NoBusyLength(number_at(row, overload)));
+    }
+    let state = settle::settle(
+        &draft.nums,
+        &draft.from,
+        &draft.also,
+        &draft.lengths,
+        &busies,
+        &draft.priorities,
+        &draft.reads,
+        n,
+    );
+    if state.past {
+        return refuse(Cause::Unsettled);
+    }
+    let replies = state.replies;
+    judge_figures(row, figures_of(row, lmin, replies, busies))
+}
+
+// 7 to 10 with the flow named, or the figures of each flow.
+pub fn judge(row: Row, lmin: u16, lmax: u16) -> Verdict
+    ensures { λ r. ⌜ (Valid (netOf lmin lmax row) → r ≡ verdictOf lmin lmax row) ⌝ }
+{
+    let misplaced = first_misplaced(row);
+    if misplaced < row::size(row) {
+        return refuse(Cause::Crossing(number_at(row, misplaced)));
+    }
+    judge_load(row, lmin, lmax)
 }

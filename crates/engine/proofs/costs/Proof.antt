@@ -6,7 +6,6 @@ use lib.ListN.{drop}
 use mathlib.Core.Path.{_≡_}
 use Prim.Native.Nat.{_+_, _*_, _-_, _≤_}
 use borrow.Author.Needs.{needs}
-use native.Mathlib.Omega.{arith}
 use Rattle.engine.proofs.costs.Statement.{statement}
 use Rattle.engine.proofs.costs.Tie as tie
 use Rattle.engine.proofs.costs.Reads as reads

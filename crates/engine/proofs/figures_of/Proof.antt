@@ -1,12 +1,8 @@
 use Rattle.engine.proofs.Tally.{tally-end}
-use Rattle.flows.specs.Lists.{held}
-use lib.ListN.{length}
-use mathlib.Core.Path.{subst, _≡_}
 use Rattle.engine.proofs.Tally.{tally-none, tally-more}
 use Rattle.engine.specs.Firsts.{FiguresUpTo}
 use Prim.Native.Nat.{_-_, _≤_}
 use borrow.Author.Needs.{needs}
-use native.Mathlib.Omega.{arith}
 use Rattle.engine.proofs.figures_of.Statement.{statement}
 use Rattle.engine.proofs.figures_of.Tie as tie
 use Rattle.engine.proofs.figures_of.Reads as reads
@@ -57,7 +53,7 @@ array-read-busy : tie.Need-array-read-busy Inv-loop μ-loop
 array-read-busy c = search needs
 
 figure-requires : tie.Need-figure-requires Inv-loop μ-loop
-figure-requires c κs = let p = c .before .before .before .before .before .before .pre in (p .0 _, p .1 _)
+figure-requires c κs = let p = c .before .before .before .before .before .before .pre in (p .0 _, p .1 _ (search needs))
 
 mul-figures : tie.Need-mul-figures Inv-loop μ-loop
 mul-figures c = search needs

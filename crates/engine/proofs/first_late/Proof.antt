@@ -3,7 +3,6 @@ use Rattle.engine.specs.Firsts.{deadlineAt, boundAt}
 use lib.Dec.{ltb}
 use Prim.Native.Nat.{_-_, _≤_}
 use borrow.Author.Needs.{needs}
-use native.Mathlib.Omega.{arith}
 use Rattle.engine.proofs.first_late.Statement.{statement}
 use Rattle.engine.proofs.first_late.Tie as tie
 use Rattle.engine.proofs.first_late.Reads as reads

@@ -5,7 +5,6 @@ use Rattle.flows.specs.Lists.{netOf}
 use Rattle.rules.specs.Judge.{misplaced}
 use Prim.Native.Nat.{ℕ, _-_, _≤_}
 use borrow.Author.Needs.{needs}
-use native.Mathlib.Omega.{arith}
 use Rattle.engine.proofs.first_misplaced.Statement.{statement}
 use Rattle.engine.proofs.first_misplaced.Tie as tie
 use Rattle.engine.proofs.first_misplaced.Reads as reads

@@ -4,7 +4,6 @@ use borrow.Author.Tests.{lt-ltb, le-ltb}
 use lib.Dec.{ltb}
 use Prim.Native.Nat.{_-_, _≤_}
 use borrow.Author.Needs.{needs}
-use native.Mathlib.Omega.{arith}
 use Rattle.engine.proofs.first_overload.Statement.{statement}
 use Rattle.engine.proofs.first_overload.Tie as tie
 use Rattle.engine.proofs.first_overload.Reads as reads
