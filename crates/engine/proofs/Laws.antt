@@ -1,12 +1,31 @@
 -- The way out of each function. Assumes nothing.
-use mathlib.Core.Path.{_≡_, ap}
-use lib.ListN.{replicate}
+use mathlib.Core.Path.{_≡_, refl, ap, _∙_}
+use mathlib.Core.List.{List}
+use Prim.Native.Nat.{ℕ, _≤_, _<_}
+use native.Mathlib.Omega.{arith}
+use lib.Dec.{ltb}
+use lib.ListN.{length, replicate}
 use Rattle.flows.specs.declared.Figures.{Figures}
 use Rattle.flows.specs.declared.Cause.{Cause}
-use Rattle.flows.specs.Lists.{mostFlows}
+use Rattle.flows.specs.declared.Row.{Row}
+use Rattle.flows.specs.declared.Cause.the-variants.{Accepted, PastDeadline}
+use Rattle.flows.specs.Lists.{mostFlows, held}
 use Rattle.engine.specs.declared.Verdict.{Verdict}
 use Rattle.engine.specs.Verdicts.{noFigures, refused}
+use Rattle.engine.specs.Firsts.{FirstIs, placed, deadlineAt, boundAt, DeadlinesIs}
 
 pub refused-made : (cause : Cause) (none : Figures) → none ≡ noFigures → record { cause = cause; figures = replicate mostFlows none } ≡ refused cause
 unfolding refused
 refused-made cause none e = ap (λ f. let v : Verdict = record { cause = cause; figures = replicate mostFlows f } in v) e
+
+module _ (row : Row) (figures : List Figures) (at n : ℕ) (first : FirstIs (λ k. ltb (deadlineAt row k) (boundAt figures k)) (length (held row)) at) (size : n ≡ length (held row)) where
+  pub late-found : at < n → (number : ℕ) → number ≡ placed row at .number → (v : Verdict) → v ≡ refused (PastDeadline number) → DeadlinesIs row figures v
+  late-found h number e v q = record {
+    at = at;
+    first = first;
+    late = λ l. q ∙ ap (λ m. refused (PastDeadline m)) e;
+    timely = λ l. absurd (omega arith);
+  }
+
+  pub none-late : n ≤ at → DeadlinesIs row figures (record { cause = Accepted; figures = figures })
+  none-late h = record { at = at; first = first; late = λ l. absurd (omega arith); timely = λ l. refl }

@@ -11,9 +11,9 @@ use borrow.Author.Tests.{ltb-true, ltb-false}
 use Rattle.least.proofs.Fold.{false-true}
 use Rattle.rules.specs.Net.{Flow, Net, Figures, Judgement, Refused, Given}
 use Rattle.rules.specs.Formula.{horizon, lastNode, Arrivals, jitterOf}
-use Rattle.rules.specs.Meaning.{On, Here, IsFigures, Lowest, applies, passes, Settles, unsettled, settled, Judged}
+use Rattle.rules.specs.Meaning.{On, Here, LeastSettled, IsFigures, Lowest, applies, passes, Settles, unsettled, settled, Judged}
 use Rattle.rules.specs.Valid.{RisingNumbers, Valid}
-use Rattle.rules.specs.Judge.{busyLength, arrivalsBy, pastHorizon, settle, figures, misplaced, firstOr, judged}
+use Rattle.rules.specs.Judge.{busyLength, arrivalsBy, pastHorizon, settle, figures, misplaced, firstOr, settledJudged, loadJudged, judged}
 use Rattle.rules.proofs.Path.{last-visited}
 use Rattle.rules.proofs.Busy.{Sound, Ready, busy-is, busy-none, busy-unique}
 use Rattle.rules.proofs.Start.{response-is, response-rises}
@@ -68,7 +68,7 @@ first-or-none p (i ∷ l) r = go (p i) refl (first-or-none p l (r .1))
 
 module _ (N : Net) where
   -- a test that tells the flows at fault decides the lowest refusal
-  lowest-first : (k : ℕ) (AtFault : Flow → Type 0) (Next : Judgement → Type 0) (p : Flow → Bool) → RisingNumbers (N .flows) →
+  pub lowest-first : (k : ℕ) (AtFault : Flow → Type 0) (Next : Judgement → Type 0) (p : Flow → Bool) → RisingNumbers (N .flows) →
       ((i : Flow) → Here N i → p i ≡ true → AtFault i) → ((i : Flow) → Here N i → p i ≡ false → AtFault i → ⊥) →
       (other : Judgement) → (((i : Flow) → Here N i → p i ≡ false) → Next other) → Lowest N k AtFault Next (firstOr p (Refused k) (N .flows) other)
   lowest-first k AtFault Next p r fault clear other next = elim (first-or-none p (N .flows) r) [
@@ -89,7 +89,7 @@ module _ (N : Net) where
           go true e = e
           go false e = absurd (clear j m e bad)
 
-  figures-are : (S : Arrivals) → Valid N → (i : Flow) → Here N i → Ready N i → IsFigures N S i (figures N S i)
+  pub figures-are : (S : Arrivals) → Valid N → (i : Flow) → Here N i → Ready N i → IsFigures N S i (figures N S i)
   unfolding figures
   figures-are S v i m r = record {
     bound = response-is N i r S (lastNode (i .path)) (last-visited (i .path) (v .flows i m .nodes));
@@ -97,9 +97,32 @@ module _ (N : Net) where
     busy = busy-is N i (r .sound) (r .busy);
   }
 
+  -- what least settled arrival bounds give
+  pub settles-by : (S : Arrivals) → Valid N → ((i : Flow) → Here N i → Ready N i) → LeastSettled N S →
+      Settles N (firstOr (λ i. ltb (i .deadline) (figures N S i .bound)) (Refused 10) (N .flows) (Given (map (figures N S) (N .flows))))
+  settles-by S v ready least =
+      settled _ S (figures N S) least (λ i m. figures-are S v i m (ready i m))
+      (lowest-first 10 _ _ (λ i. ltb (i .deadline) (figures N S i .bound)) (v .rising)
+      (λ i m e. ltb-true (i .deadline) (figures N S i .bound) e)
+      (λ i m e late. omega (arith, ltb-false (i .deadline) (figures N S i .bound) e)) _
+      (λ all. refl))
+
   -- the judgement that computes is one that is meant
+  pub settles-is : Valid N → ((i : Flow) → Here N i → Ready N i) → Settles N (settledJudged N)
+  unfolding settledJudged
+  settles-is v ready = go (pastHorizon (settle N)) refl
+    where
+      go : (b : Bool) → pastHorizon (settle N) ≡ b → Settles N (elim b [
+        | true ↦ Refused 9 0
+        | false ↦ (
+            let f = figures N (arrivalsBy N (settle N)) in
+            firstOr (λ i. ltb (i .deadline) (f i .bound)) (Refused 10) (N .flows) (Given (map f (N .flows))))
+      ])
+      go true e = unsettled (settle-past N ready e)
+      go false e = settles-by (arrivalsBy N (settle N)) v ready (settle-least N ready e)
+
   pub judged-is : Valid N → Judged N (judged N)
-  unfolding judged
+  unfolding judged loadJudged
   judged-is v =
       lowest-first 7 _ _ (misplaced N) (v .rising) (λ i m e. misplaced-broken N i e) (λ i m e bad. bad (placed-permitted N i e)) _
       (λ placed.
@@ -107,22 +130,7 @@ module _ (N : Net) where
       (λ i m e. busy-none N i (sound N v i m) (ltb-true horizon (busyLength N i) e))
       (λ i m e none. none (busyLength N i) (busy-is N i (sound N v i m) (ltb-false horizon (busyLength N i) e))) _
       (λ light.
-      go (λ i m. record { sound = sound N v i m; busy = ltb-false horizon (busyLength N i) (light i m) }) (pastHorizon (settle N)) refl))
-    where
-      go : ((i : Flow) → Here N i → Ready N i) → (b : Bool) → pastHorizon (settle N) ≡ b → Settles N (elim b [
-        | true ↦ Refused 9 0
-        | false ↦ (
-            let f = figures N (arrivalsBy N (settle N)) in
-            firstOr (λ i. ltb (i .deadline) (f i .bound)) (Refused 10) (N .flows) (Given (map f (N .flows))))
-      ])
-      go ready true e = unsettled (settle-past N ready e)
-      go ready false e =
-          let f = figures N (arrivalsBy N (settle N)) in
-          settled _ (arrivalsBy N (settle N)) f (settle-least N ready e) (λ i m. figures-are (arrivalsBy N (settle N)) v i m (ready i m))
-          (lowest-first 10 _ _ (λ i. ltb (i .deadline) (f i .bound)) (v .rising)
-          (λ i m e. ltb-true (i .deadline) (f i .bound) e)
-          (λ i m e late. omega (arith, ltb-false (i .deadline) (f i .bound) e)) _
-          (λ all. refl))
+      settles-is v (λ i m. record { sound = sound N v i m; busy = ltb-false horizon (busyLength N i) (light i m) })))
 
   -- two that are meant are equal
   lowest-unique : (k : ℕ) (AtFault : Flow → Type 0) (Next : Judgement → Type 0) →
@@ -168,7 +176,7 @@ module _ (N : Net) where
         response-rises N i s S′ S (λ k. le-of-eq (sym (e k))) (lastNode (i .path)) (f′ .bound) (f .bound) o (p′ .bound) (p .bound),
       )
 
-  settles-unique : Valid N → (v w : Judgement) → Settles N v → Settles N w → v ≡ w
+  pub settles-unique : Valid N → (v w : Judgement) → Settles N v → Settles N w → v ≡ w
   settles-unique val v w (unsettled a) (unsettled b) = refl
   settles-unique val v w (unsettled a) (settled x S f l p q) = absurd (a S (l .settled))
   settles-unique val v w (settled x S f l p q) (unsettled a) = absurd (a S (l .settled))

@@ -10,7 +10,7 @@ use Rattle.least.specs.Instants.{bestTo}
 use Rattle.least.specs.Starts.{startTo}
 use Rattle.rules.specs.Net.{Hop, Flow, Net, Figures, Judgement, Refused, Given}
 use Rattle.rules.specs.Formula.{horizon, role, visits, prefix, before, lastNode, firstOn, lastOn, there, crossings, smin, runsAlong, along, leastCost, M, slowest, weight, ownWeight, earliest, slowestNode, plusA, lessA, term1, term2, packets, others, term3, greatestCost, term4, lowerCost, term5, term6, sum, load, jitterOf}
-use Rattle.rules.specs.Judge.{busyLength, start, response, arrivingBy, arrivalsBy, replies, round, pastHorizon, total, still, rounds, settle, figures, meetsAgain, returns, misplaced, firstOr, judged}
+use Rattle.rules.specs.Judge.{busyLength, start, response, arrivingBy, arrivalsBy, replies, round, pastHorizon, total, still, rounds, settle, figures, meetsAgain, returns, misplaced, firstOr, settledJudged, loadJudged, judged}
 
 hop : ℕ → ℕ → Hop
 hop n c = record { node = n; cost = c }
@@ -85,9 +85,9 @@ Right [] = Unit {0}
 Right (r ∷ l) = (judged (r .net) ≡ r .expected) × Right l
 
 pub worked : Right rows
-unfolding Right rows hop flow plain fig on row count ceil sumOf maxOf minOf anyOf keep climb settleBy bestTo startTo horizon role visits prefix before lastNode firstOn lastOn there crossings smin runsAlong along leastCost M slowest weight ownWeight earliest slowestNode plusA lessA term1 term2 packets others term3 greatestCost term4 lowerCost term5 term6 sum load jitterOf busyLength start response arrivingBy arrivalsBy replies round pastHorizon total still rounds settle figures meetsAgain returns misplaced firstOr judged
+unfolding Right rows hop flow plain fig on row count ceil sumOf maxOf minOf anyOf keep climb settleBy bestTo startTo horizon role visits prefix before lastNode firstOn lastOn there crossings smin runsAlong along leastCost M slowest weight ownWeight earliest slowestNode plusA lessA term1 term2 packets others term3 greatestCost term4 lowerCost term5 term6 sum load jitterOf busyLength start response arrivingBy arrivalsBy replies round pastHorizon total still rounds settle figures meetsAgain returns misplaced firstOr settledJudged loadJudged judged
 worked = (refl, (refl, (refl, (refl, (refl, (refl, (refl, (refl, (refl, (refl, (refl, (refl, tt))))))))))))
 
 pub told-apart : Right apart
-unfolding Right apart hop flow plain fig on row count ceil sumOf maxOf minOf anyOf keep climb settleBy bestTo startTo horizon role visits prefix before lastNode firstOn lastOn there crossings smin runsAlong along leastCost M slowest weight ownWeight earliest slowestNode plusA lessA term1 term2 packets others term3 greatestCost term4 lowerCost term5 term6 sum load jitterOf busyLength start response arrivingBy arrivalsBy replies round pastHorizon total still rounds settle figures meetsAgain returns misplaced firstOr judged
+unfolding Right apart hop flow plain fig on row count ceil sumOf maxOf minOf anyOf keep climb settleBy bestTo startTo horizon role visits prefix before lastNode firstOn lastOn there crossings smin runsAlong along leastCost M slowest weight ownWeight earliest slowestNode plusA lessA term1 term2 packets others term3 greatestCost term4 lowerCost term5 term6 sum load jitterOf busyLength start response arrivingBy arrivalsBy replies round pastHorizon total still rounds settle figures meetsAgain returns misplaced firstOr settledJudged loadJudged judged
 told-apart = (refl, (refl, (refl, (refl, (refl, (refl, (refl, (refl, (refl, (refl, (refl, (refl, (refl, (refl, (refl, (refl, tt))))))))))))))))

@@ -83,14 +83,20 @@ unfoldable pub firstOr : (Flow → Bool) → (ℕ → Judgement) → List Flow �
 firstOr p f [] other = other
 firstOr p f (i ∷ l) other = elim (p i) [ true ↦ f (i .number) | false ↦ firstOr p f l other ]
 
-unfoldable pub judged : Net → Judgement
-judged N =
-    firstOr (misplaced N) (Refused 7) (N .flows)
-    (firstOr (λ i. ltb horizon (busyLength N i)) (Refused 8) (N .flows)
-    (let c = settle N in
+-- 9, then 10, or the figures of each flow
+unfoldable pub settledJudged : Net → Judgement
+settledJudged N =
+    let c = settle N in
     elim (pastHorizon c) [
       | true ↦ Refused 9 0
       | false ↦ (
           let f = figures N (arrivalsBy N c) in
           firstOr (λ i. ltb (i .deadline) (f i .bound)) (Refused 10) (N .flows) (Given (map f (N .flows))))
-    ]))
+    ]
+
+-- 8 before that, and 7 before all
+unfoldable pub loadJudged : Net → Judgement
+loadJudged N = firstOr (λ i. ltb horizon (busyLength N i)) (Refused 8) (N .flows) (settledJudged N)
+
+unfoldable pub judged : Net → Judgement
+judged N = firstOr (misplaced N) (Refused 7) (N .flows) (loadJudged N)

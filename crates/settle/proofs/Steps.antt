@@ -31,7 +31,7 @@ use Rattle.sheets.specs.Setup.{Unread}
 use Rattle.sheets.proofs.Places.{flow-here, place-at}
 use Rattle.settle.specs.Good.{arrivalsIn, held, due, Good, Rests}
 
-member-place : {A : Type 0} {x : A} {l : List A} (d : A) → List·Memᴰ x l → (k : ℕ) × (k < length l) × (getD l k d ≡ x)
+pub member-place : {A : Type 0} {x : A} {l : List A} (d : A) → List·Memᴰ x l → (k : ℕ) × (k < length l) × (getD l k d ≡ x)
 member-place d (List·Memᴰ·head e) = (0, omega arith, sym e)
 member-place d (List·Memᴰ·tail m) = let r = member-place d m in (suc (r .0), omega (arith, r .1), r .2)
 

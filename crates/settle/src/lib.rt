@@ -6,7 +6,7 @@ ghost use mathlib.Core.Path.{_≡_};
 ghost use Prim.Native.Nat.{_+_, _*_, _<_, _≤_};
 ghost use lib.ListN.{length};
 ghost use Rattle.starts.specs.Sheet.{mostFlows, mostNodes, values};
-ghost use Rattle.starts.specs.Runs.{Low};
+ghost use Rattle.starts.specs.Runs.{Low, LowTo};
 ghost use Rattle.sheets.specs.Fields.{HalfSmall};
 ghost use Rattle.settle.specs.Turns.{RaisedIs, Flags, MarkedIs, ChosenIs, Short, Fair, TurnIs, SettleIs};
 
@@ -127,7 +127,7 @@ fn turn<'a>(
     state: State,
     a: usize,
 ) -> State
-    requires { ⌜ (a < n) × (n ≤ mostFlows) × HalfSmall (now nums) × Short (now lengths) × Low (now busies) × Fair (state .replies) (state .marks) ⌝ }
+    requires { ⌜ (a < n) × (n ≤ mostFlows) × HalfSmall (now nums) × Short (now lengths) × LowTo n (now busies) × Fair (state .replies) (state .marks) ⌝ }
     ensures { λ r. ⌜ TurnIs (now (nums .entry)) (now (from .entry)) (now (also .entry)) (now (lengths .entry)) (now (busies .entry)) (now (reads .entry)) n (state .replies) (state .marks) a (r .past) (r .replies) (r .marks) ⌝ }
     ensures { λ r. ⌜ Fair (r .replies) (r .marks) ⌝ }
 {
@@ -173,7 +173,7 @@ pub fn settle<'a>(
     reads: &'a [u64; PLACES],
     n: usize,
 ) -> State
-    requires { ⌜ (n ≤ mostFlows) × HalfSmall (now nums) × Short (now lengths) × Low (now busies) ⌝ }
+    requires { ⌜ (n ≤ mostFlows) × HalfSmall (now nums) × Short (now lengths) × LowTo n (now busies) ⌝ }
     ensures { λ r. ⌜ SettleIs (now (nums .entry)) (now (from .entry)) (now (also .entry)) (now (lengths .entry)) (now (busies .entry)) (now (reads .entry)) n (r .past) (r .replies) ⌝ }
     ensures { λ r. ⌜ Low (r .replies) ⌝ }
 {

@@ -118,7 +118,7 @@ pub fn larger(a: u64, b: u64) -> u64
 }
 
 // a − b, and 0 below that
-fn less(a: u64, b: u64) -> u64
+pub fn less(a: u64, b: u64) -> u64
     ensures { λ r. ⌜ r ≡ a - b ⌝ }
 {
     if a < b {

@@ -1,5 +1,4 @@
 use Rattle.engine.proofs.Laws.{refused-made}
-use native.Mathlib.Omega.{arith}
 use borrow.Author.Needs.{needs}
 use Rattle.engine.proofs.refuse.Statement.{statement}
 use Rattle.engine.proofs.refuse.Tie as tie

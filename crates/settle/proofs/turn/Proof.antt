@@ -31,7 +31,7 @@ element-copy-out-responses : tie.Need-element-copy-out-responses
 element-copy-out-responses c = search needs
 
 responses-requires : tie.Need-responses-requires
-responses-requires c κs = let s = c .before .before .before .before .before .before .before in (s .pre .3 (s .args .a), s .pre .1, s .pre .4 (s .args .a), c .before .before .before .fill .ensures .1)
+responses-requires c κs = let s = c .before .before .before .before .before .before .before in (s .pre .3 (s .args .a), s .pre .1, s .pre .4 (s .args .a) (s .pre .0), c .before .before .before .fill .ensures .1)
 
 returns : tie.Need-returns
 returns c = let s = c .before .before .before .before .before .before .before .before .before in let x = s .args in let p = s .pre in let f = c .before .before .before .before .before .fill in let r = c .before .responses in (turn-past (x .nums .now) (x .from .now) (x .also .now) (x .lengths .now) (x .busies .now) (x .reads .now) (x .n) (x .state .replies) (x .state .marks) (x .a) (p .0) (p .1) (p .5) (f .result) (f .ensures .0) (f .ensures .1) (r .result .past) (r .result .best) (r .ensures .0) (search needs), unmarked-fair (x .state .replies) (x .state .marks) (p .5) (x .a) (search needs))

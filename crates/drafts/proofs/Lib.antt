@@ -1,0 +1,5 @@
+pub mod Making
+pub mod Tables
+pub mod Holding
+pub mod Reading
+pub mod Setting

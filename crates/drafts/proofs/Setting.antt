@@ -1,0 +1,64 @@
+-- What is prepared is what settling asks. Assumes nothing.
+use mathlib.Core.Path.{_≡_, sym, ap, _∙_}
+use mathlib.Core.List.{List, map}
+use Prim.Native.Nat.{ℕ, _+_, _*_, _≤_, _<_}
+use native.Mathlib.Omega.{arith}
+use lib.ListN.{length, getD, set, replicate}
+use Rattle.rules.specs.Net.{Net}
+use Rattle.rules.specs.Net as net
+use Rattle.rules.specs.Valid.{Valid}
+use Rattle.rules.specs.Judge.{busyLength}
+use Rattle.flows.specs.declared.Flow.{Flow}
+use Rattle.flows.specs.declared.Row.{Row}
+use Rattle.flows.specs.Lists.{mostFlows, mostNodes, noFlow, pathOf, flowOf, held}
+use Rattle.sums.specs.Whole.{netWith}
+use Rattle.starts.specs.Sheet.{values}
+use Rattle.sheets.specs.Fields.{flowAt}
+use Rattle.sheets.specs.Setup.{Setup}
+use Rattle.drafts.specs.Cells.{CellsAre}
+use Rattle.drafts.specs.Reading.{readAt}
+use Rattle.drafts.proofs.Making.{flow-is, size-is}
+use Rattle.drafts.proofs.Tables.{Tabulated, table-start, table-more}
+use Rattle.drafts.proofs.Holding.{draft-is}
+use Rattle.drafts.proofs.Reading.{not-read}
+
+module _ (row : Row) (lmin lmax : ℕ) where
+  abbrev N : Net
+  N = netWith row lmin lmax
+
+  -- what is told of each of the first k flows
+  pub record Flows (lengths busies priorities : List ℕ) (k : ℕ) : Type 0 where
+    pub long : Tabulated (λ a. length (flowAt N a .path)) mostFlows mostNodes lengths k
+    pub busy : Tabulated (λ a. busyLength N (flowAt N a)) mostFlows 65536 busies k
+    pub priority : Tabulated (λ a. flowAt N a .priority) mostFlows 255 priorities k
+
+  pub flows-start : Flows (replicate mostFlows 0) (replicate mostFlows 0) (replicate mostFlows 0) 0
+  flows-start = record { long = table-start _ _ _; busy = table-start _ _ _; priority = table-start _ _ _ }
+
+  pub flows-more : (lengths busies priorities : List ℕ) (k : ℕ) → Flows lengths busies priorities k → k < mostFlows →
+      (i : Flow) → i ≡ getD (held row) k noFlow → (m b : ℕ) → m ≡ length (pathOf i) → m ≤ mostNodes →
+      ((lmin lmax : ℕ) → b ≡ busyLength (netWith row lmin lmax) (flowOf i)) → b ≤ 65536 → i .priority < 256 →
+      Flows (set lengths k m) (set busies k b) (set priorities k (i .priority)) (k + 1)
+  flows-more lengths busies priorities k t h i e m b em lm eb lb lp =
+      let f : flowOf i ≡ flowAt N k = flow-is row k i e in
+      record {
+        long = table-more _ _ _ lengths k m (t .long) h (em ∙ ap (λ (i : net.Flow). length (i .path)) f) lm;
+        busy = table-more _ _ _ busies k b (t .busy) h (eb lmin lmax ∙ ap (busyLength N) f) lb;
+        priority = table-more _ _ _ priorities k (i .priority) (t .priority) h (ap (λ (i : net.Flow). i .priority) f) (omega arith);
+      }
+
+  pub setup-made : (nums from also lengths busies priorities reads : List ℕ) (n k : ℕ) → n ≡ length (held row) → n ≤ mostFlows → n ≤ k →
+      CellsAre N nums from also → Flows lengths busies priorities k → ((j : ℕ) → j < 256 → values reads j ≡ readAt (map flowOf (held row)) j) →
+      Valid N → Setup N nums from also lengths busies reads n
+  setup-made nums from also lengths busies priorities reads n k en few past cells told read val =
+      let c : n ≡ length (N .flows) = size-is row n en in
+      let short : (a : ℕ) → a < length (N .flows) → length (flowAt N a .path) ≤ mostNodes =
+      λ a h. omega (arith, told .long .done a (omega arith), told .long .low a) in
+      record {
+        count = sym c;
+        draft = draft-is N nums from also cells (omega arith) short;
+        long = λ a h. told .long .done a (omega arith);
+        short = λ a h. short a (omega arith);
+        busy = λ a h. told .busy .done a (omega arith);
+        unread = λ a b h g e. not-read N val a b (omega arith) (omega arith) (omega arith) (sym (read (b * mostFlows + a) (omega arith)) ∙ e);
+      }

@@ -1,0 +1,63 @@
+use Rattle.paths.proofs.Loops.{sum-place, sum-end}
+use Rattle.flows.specs.Lists.{pathOf}
+use Rattle.rules.specs.Formula.{least}
+use Rattle.least.specs.Fold.{sumOf}
+use lib.ListN.{drop}
+use mathlib.Core.Path.{_≡_}
+use Prim.Native.Nat.{_+_, _*_, _-_, _≤_}
+use borrow.Author.Needs.{needs}
+use Rattle.engine.proofs.costs.Statement.{statement}
+use Rattle.engine.proofs.costs.Tie as tie
+use Rattle.engine.proofs.costs.Reads as reads
+use Rattle.engine.proofs.costs.Lts as lts
+use Rattle.flows.proofs.path_end.Reads as path-end-reads
+use Rattle.paths.proofs.cost_of.Reads as cost-of-reads
+
+abbrev Inv-loop : tie.InvT-loop
+Inv-loop f n sum₀ k₀ sum k = (k ≤ n) × (sum ≤ 65535 * k) × (sum + sumOf least (drop k (pathOf f)) ≡ sumOf least (pathOf f))
+
+abbrev μ-loop : tie.MeasureT-loop
+μ-loop f n sum₀ k₀ sum k = n - k
+
+path-end-requires : tie.Need-path-end-requires Inv-loop μ-loop
+path-end-requires c κs = search needs
+
+loop-holds : tie.Need-loop-holds Inv-loop μ-loop
+loop-holds c = search needs
+
+cost-of-requires : tie.Need-cost-of-requires Inv-loop μ-loop
+cost-of-requires c κs = search needs
+
+cast-sum : tie.Need-cast-sum Inv-loop μ-loop
+cast-sum c = search needs
+
+add-sum : tie.Need-add-sum Inv-loop μ-loop
+add-sum c = search needs
+
+add-k : tie.Need-add-k Inv-loop μ-loop
+add-k c = search needs
+
+loop-less : tie.Need-loop-less Inv-loop μ-loop
+loop-less c = search needs
+
+loop-again : tie.Need-loop-again Inv-loop μ-loop
+loop-again c = (search needs, search needs, search sum-place)
+
+returns : tie.Need-returns Inv-loop μ-loop
+returns c = (search sum-end, search needs)
+
+pub costs-spec : {M : Type 1} → statement M
+costs-spec =
+    tie.close
+    (tie.spec
+    Inv-loop
+    μ-loop
+    path-end-requires
+    loop-holds
+    cost-of-requires
+    cast-sum
+    add-sum
+    add-k
+    loop-less
+    loop-again
+    returns)
