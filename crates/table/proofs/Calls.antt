@@ -1,25 +1,31 @@
--- What an accepted admission did. Assumes nothing.
-use mathlib.Core.Path.{_≡_, refl, sym, ap, _∙_, subst}
+-- What an accepted admission did, and what refusals give. Assumes nothing.
+use Prim.Native.Nat.{ℕ, zero, suc, _<_}
+use mathlib.Core.Path.{_≡_, refl, sym, ap, _∙_}
 use mathlib.Core.Bool.{Bool, true, false, cond, false≢true}
-use mathlib.Core.List.{List}
+use mathlib.Core.List.{List, [], _∷_, List·Memᴰ, List·Memᴰ·head, List·Memᴰ·tail}
 use mathlib.Core.Logic.{_⊎_}
+use native.Mathlib.Omega.{arith}
+use lib.ListN.{length, getD}
 use Rattle.rules.specs.Net as net
 use Rattle.rules.specs.Judge.{judged}
 use Rattle.flows.specs.declared.Flow.{Flow}
 use Rattle.flows.specs.declared.Row.{Row}
 use Rattle.flows.specs.declared.Table.{Table}
 use Rattle.flows.specs.declared.Answer.{Answer}
+use Rattle.flows.specs.declared.Asked.the-variants.{Refused}
 use Rattle.flows.specs.declared.Cause.{Cause}
-use Rattle.flows.specs.declared.Cause.the-variants.{Accepted}
-use Rattle.flows.specs.Refusals.{acceptedBy}
-use Rattle.flows.specs.Lists.{held, rowOf}
+use Rattle.flows.specs.declared.Cause.the-variants.{Accepted, Absent}
+use Rattle.flows.specs.Refusals.{acceptedBy, refusalOf}
+use Rattle.flows.specs.Lists.{noFlow, held, rowOf}
 use Rattle.flows.proofs.Causes.{accepted-only}
-use Rattle.row.specs.Rows.{insertSorted, entryCause}
+use Rattle.row.specs.declared.Found.{Found}
+use Rattle.row.specs.declared.Found.the-variants.{At, Nothing}
+use Rattle.row.specs.Rows.{foundIn, insertSorted, inserted, entryCause}
 use Rattle.row.proofs.Arrays.{held-rowOf}
-use Rattle.row.proofs.Sets.{Enters, enters, insert-has, insert-keeps, insert-only}
+use Rattle.row.proofs.Sets.{Enters, enters, insert-has, insert-keeps, insert-only, found-flow}
 use Rattle.engine.specs.declared.Verdict.{Verdict}
 use Rattle.engine.specs.Verdicts.{causeOf, refused, given, verdictFrom}
-use Rattle.table.specs.Calls.{answered, unless, holding, decided, admitted}
+use Rattle.table.specs.Calls.{answered, unless, holding, decided, judgedRow, admitted, withdrawnBy, withdrawn, askedBy, askedFor}
 use Rattle.table.specs.Figured.{Present, enlargedNet}
 use Rattle.table.proofs.Kept.{cause-refuses, admit-decided}
 
@@ -73,3 +79,40 @@ module _ (t : Table) (f : Flow) (a : admitted t f .cause ≡ Accepted) where
 
   pub admit-only : (g : Flow) → Present (admitted t f .table) g → (g ≡ f) ⊎ Present t g
   admit-only g m = insert-only f g (held (t .row)) (rw admit-held at m)
+
+-- A refusal gives back the old table
+old-table : (t u : Table) (e v : Cause) (b d : Bool) → (cond b (cond d (answered Accepted u) (answered v t)) (answered e t) .cause ≡ Accepted → ⊥) →
+    cond b (cond d (answered Accepted u) (answered v t)) (answered e t) ≡
+    answered (cond b (cond d (answered Accepted u) (answered v t)) (answered e t) .cause) t
+unfolding answered
+old-table t u e v true true never = absurd (never refl)
+old-table t u e v true false never = refl
+old-table t u e v false d never = refl
+
+pub admit-old : (t : Table) (f : Flow) → (admitted t f .cause ≡ Accepted → ⊥) → admitted t f ≡ answered (admitted t f .cause) t
+unfolding admitted decided unless
+admit-old t f never = old-table t _ _ _ (acceptedBy (entryCause (held (t .row)) f)) (acceptedBy (judgedRow t (inserted (t .row) f) .cause)) never
+
+-- A number that is not in the table is refused with 11
+member-at : (fs : List Flow) (k : ℕ) → k < length fs → List·Memᴰ (getD fs k noFlow) fs
+member-at [] k h = absurd (omega arith)
+member-at (f ∷ fs) zero h = List·Memᴰ·head refl
+member-at (f ∷ fs) (suc k) h = List·Memᴰ·tail (member-at fs k (omega arith))
+
+module _ (t : Table) (number : ℕ) (absent : (f : Flow) → Present t f → f .number ≡ number → ⊥) where
+  found-absent : foundIn (held (t .row)) number ≡ Nothing
+  found-absent = go (foundIn (held (t .row)) number) refl
+    where
+      go : (b : Found) → foundIn (held (t .row)) number ≡ b → foundIn (held (t .row)) number ≡ Nothing
+      go Nothing e = e
+      go (At k) e =
+          let p = found-flow (held (t .row)) number k noFlow e in
+          absurd (absent (getD (held (t .row)) k noFlow) (member-at (held (t .row)) k (p .0)) (p .1))
+
+  pub withdraw-refused : withdrawn t number ≡ answered Absent t
+  unfolding withdrawn withdrawnBy
+  withdraw-refused = ap (withdrawnBy t number) found-absent
+
+  pub ask-refused : askedFor t number ≡ Refused (refusalOf Absent 0)
+  unfolding askedFor askedBy
+  ask-refused = ap (askedBy t) found-absent

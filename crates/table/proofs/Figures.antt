@@ -3,7 +3,7 @@ use Prim.Native.Nat.{ℕ, zero, suc, _<_}
 use mathlib.Core.Path.{_≡_, refl, sym, ap, _∙_}
 use mathlib.Core.List.{List, [], _∷_, _++_, map, List·Memᴰ, List·Memᴰ·head, List·Memᴰ·tail, List·Memᴰ·not-nil, Memᴰ·map}
 use native.Mathlib.Omega.{arith}
-use lib.ListN.{length, getD, replicate}
+use lib.ListN.{length, getD}
 use borrow.Author.Tests.{eq-eqb, ne-eqb, lt-ltb}
 use Rattle.rules.specs.Net as net
 use Rattle.rules.specs.Valid.{RisingNumbers, Valid}
@@ -13,7 +13,7 @@ use Rattle.flows.specs.declared.Flow.{Flow}
 use Rattle.flows.specs.declared.Figures.{Figures}
 use Rattle.flows.specs.declared.Table.{Table}
 use Rattle.flows.specs.declared.Asked.the-variants.{Given}
-use Rattle.flows.specs.Lists.{mostFlows, noFlow, held, flowOf, tableNet}
+use Rattle.flows.specs.Lists.{noFlow, held, flowOf, tableNet}
 use Rattle.row.specs.declared.Found.the-variants.{At}
 use Rattle.row.specs.Rows.{firstOf, placeOf, foundIn}
 use Rattle.engine.specs.Verdicts.{noFigures, asFigures, given}

@@ -1,5 +1,5 @@
 -- What calls keep: a table in rising number whose figures are those that the rules give for its flows. Assumes nothing.
-use Prim.Native.Nat.{ℕ, suc, _≤_, _<_}
+use Prim.Native.Nat.{ℕ, suc, _≤_}
 use mathlib.Core.Path.{_≡_, refl, sym, ap, _∙_, subst}
 use mathlib.Core.Bool.{Bool, true, false, cond, _||_}
 use mathlib.Core.List.{List, [], _∷_, map, Sublistᴰ, Sublistᴰ·slnil, Sublistᴰ·cons, Sublistᴰ·cons-cons, Sublistᴰ·refl}
@@ -12,10 +12,7 @@ use Rattle.rules.specs.Net as net
 use Rattle.rules.specs.Valid.{Valid}
 use Rattle.rules.specs.Judge.{judged}
 use Rattle.flows.specs.declared.Flow.{Flow}
-use Rattle.flows.specs.declared.Row.{Row}
 use Rattle.flows.specs.declared.Table.{Table}
-use Rattle.flows.specs.declared.Answer.{Answer}
-use Rattle.flows.specs.declared.Cause.{Cause}
 use Rattle.flows.specs.declared.Cause.the-variants.{Accepted, Delays, Crossing, NoBusyLength, Unsettled, PastDeadline}
 use Rattle.flows.specs.Refusals.{numberOf, acceptedBy}
 use Rattle.flows.specs.Lists.{mostFlows, held, rowOf, flowOf, netOf, tableNet}

@@ -5,3 +5,4 @@ pub mod Sets
 pub mod Calls
 pub mod Withdrawals
 pub mod Refusals
+pub mod Ways

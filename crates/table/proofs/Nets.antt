@@ -2,7 +2,7 @@
 use mathlib.Core.Path.{_≡_, refl}
 use mathlib.Core.Bool.{Bool, true, false}
 use mathlib.Core.List.{List, [], map, Sublistᴰ}
-use Prim.Native.Nat.{ℕ, _≤_, _<_}
+use Prim.Native.Nat.{ℕ, _≤_}
 use native.Mathlib.Omega.{arith}
 use native.Mathlib.Nat.{le-trans}
 use lib.Dec.{ltb}
@@ -10,16 +10,16 @@ use borrow.Author.Tests.{ltb-true, ltb-false}
 use Rattle.least.specs.Fold.{sumOf, anyOf}
 use Rattle.least.specs.Vector.{_⊑_, settleBy}
 use Rattle.least.proofs.Fold.{mem-sublist}
-use Rattle.rules.specs.Net.{Flow, Net, Figures, Judgement, Refused, Given}
+use Rattle.rules.specs.Net.{Flow, Net, Figures, Judgement, Given}
 use Rattle.rules.specs.Formula.{Arrivals}
-use Rattle.rules.specs.Meaning.{Here, IsBusy, IsFigures, Settled, LeastSettled, Permitted, Lowest, applies, passes, Settles, unsettled, settled, Judged}
+use Rattle.rules.specs.Meaning.{Here, IsBusy, IsFigures, LeastSettled, Permitted, applies, passes, unsettled, settled, Judged}
 use Rattle.rules.specs.Valid.{Valid}
-use Rattle.rules.specs.Judge.{replies, round, pastHorizon, total, still, rounds, settle, firstOr, judged}
+use Rattle.rules.specs.Judge.{replies, round, pastHorizon, total, still, rounds, settle, firstOr, settledJudged, loadJudged, judged}
 use Rattle.rules.proofs.Judge.{judged-is}
 use Rattle.rules.proofs.Withdraw.{withdraw-valid, withdraw-permitted, withdraw-busy, withdraw-settled, withdraw-bound}
 
 pub none-accepted : (lmin lmax : ℕ) → judged (record { lmin = lmin; lmax = lmax; flows = [] }) ≡ Given []
-unfolding judged firstOr settle settleBy rounds round replies pastHorizon still total anyOf sumOf
+unfolding judged loadJudged settledJudged firstOr settle settleBy rounds round replies pastHorizon still total anyOf sumOf
 none-accepted lmin lmax = refl
 
 -- what a judgement with figures says of the set

@@ -2,10 +2,9 @@
 -- length (8), no settled arrival bounds (9) or a bound past a deadline (10). Assumes nothing.
 use Prim.Native.Nat.{ℕ, _≤_}
 use mathlib.Core.Path.{_≡_, refl, sym, ap, _∙_, subst}
-use mathlib.Core.Bool.{true, false, false≢true}
+use mathlib.Core.Bool.{true}
 use mathlib.Core.List.{Sublistᴰ·refl}
 use native.Mathlib.Omega.{arith}
-use native.Mathlib.Nat.{le-refl}
 use Rattle.rules.specs.Net as net
 use Rattle.rules.specs.Formula.{Arrivals}
 use Rattle.rules.specs.Meaning.{Here, IsBound, LeastSettled, Permitted, Judged, applies, passes, unsettled, settled}
@@ -25,7 +24,7 @@ use Rattle.flows.proofs.Causes.{accepted-only}
 use Rattle.row.specs.Rows.{insertSorted}
 use Rattle.row.proofs.Sets.{Enters}
 use Rattle.engine.specs.Verdicts.{causeOf, refused, given, verdictFrom}
-use Rattle.table.specs.Calls.{admitted}
+use Rattle.table.specs.Calls.{decided, admitted}
 use Rattle.table.specs.Made.{Made}
 use Rattle.table.specs.Figured.{enlargedNet, Faulty, no-busy-length, not-settled, past-deadline}
 use Rattle.table.proofs.Nets.{accepting}
@@ -69,6 +68,10 @@ module _ (N : net.Net) (v : Valid N) where
 module _ (t : Table) (made : Made t) (f : Flow) (u : Typed f) (n : Enters (held (t .row)) f) where
   enlarged-valid : Valid (enlargedNet t f)
   enlarged-valid = kept-valid (t .lmin) (t .lmax) (insertSorted f (held (t .row))) (admit-kept t f n (made-right t made .set) u)
+
+  -- what is meant by 7 to 10 decides, with the least flow at fault named
+  pub admit-means : (v : net.Judgement) × Judged (enlargedNet t f) v × (admitted t f ≡ decided t (rowOf (insertSorted f (held (t .row)))) (verdictFrom v))
+  admit-means = (judged (enlargedNet t f), judged-is (enlargedNet t f) enlarged-valid, admit-decided t f n (entered (held (t .row)) f n))
 
   pub refused-if : (c : Cause) → Faulty (enlargedNet t f) c → admitted t f .cause ≡ Accepted → ⊥
   refused-if c b a = let d = admit-done t f a in clear (enlargedNet t f) enlarged-valid c b (d .givens) (d .judgement)

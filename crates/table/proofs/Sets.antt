@@ -12,11 +12,10 @@ use Rattle.rules.specs.Valid.{RisingNumbers}
 use Rattle.rules.specs.Judge.{judged}
 use Rattle.flows.specs.declared.Flow.{Flow}
 use Rattle.flows.specs.declared.Figures.{Figures}
-use Rattle.flows.specs.declared.Row.{Row}
 use Rattle.flows.specs.declared.Table.{Table}
 use Rattle.flows.specs.declared.Answer.{Answer}
 use Rattle.flows.specs.declared.Cause.the-variants.{Accepted}
-use Rattle.flows.specs.Lists.{mostFlows, held, rowOf, flowOf}
+use Rattle.flows.specs.Lists.{held, rowOf, flowOf}
 use Rattle.flows.specs.WellFormed.{Each, each-none, each-more}
 use Rattle.row.specs.Rows.{firstOf, placeOf, insertSorted, without, entryCause}
 use Rattle.row.proofs.Arrays.{held-rowOf}
@@ -25,7 +24,7 @@ use Rattle.engine.specs.Verdicts.{given, verdictFrom}
 use Rattle.table.specs.Calls.{emptyTable, answered, unless, freshAnswer, holding, decided, judgedRow, admitted, withdrawnBy, withdrawn}
 use Rattle.table.specs.Made.{Made, by-fresh, by-admit}
 use Rattle.table.specs.Figured.{Present}
-use Rattle.table.proofs.Kept.{netWith, Right, empty-right, admit-decided, withdraw-right, made-right}
+use Rattle.table.proofs.Kept.{netWith, Kept, Right, right-of, empty-right, admit-decided, withdraw-right, made-right}
 use Rattle.table.proofs.Figures.{right-valid, found-present}
 
 same-parts : (t u : Table) → t .lmin ≡ u .lmin → t .lmax ≡ u .lmax → t .row ≡ u .row → t .figures ≡ u .figures → t ≡ u
@@ -168,3 +167,7 @@ made-in (suc n) t r e = go (held (t .row)) refl (λ s q l. made-in n s q l)
 -- A set that every refusal lets pass, with its figures, is a table that calls make
 pub right-made : (t : Table) → Right t → Made t
 right-made t r = made-in (length (held (t .row))) t r refl
+
+pub accepted-made : (lmin lmax : ℕ) (fs : List Flow) (gs : List net.Figures) → Kept lmin lmax fs → judged (netWith lmin lmax fs) ≡ net.Given gs →
+    Made (record { lmin = lmin; lmax = lmax; row = rowOf fs; figures = given gs .figures })
+accepted-made lmin lmax fs gs k j = right-made _ (right-of (record { lmin = lmin; lmax = lmax; row = rowOf fs; figures = given gs .figures }) fs gs refl k j refl)

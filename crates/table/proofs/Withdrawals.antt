@@ -1,7 +1,7 @@
 -- Withdrawing a present flow succeeds, leaves the others, and no remaining bound rises. Assumes nothing.
-use Prim.Native.Nat.{ℕ, _≤_}
-use mathlib.Core.Path.{_≡_, refl, sym, ap, _∙_, subst}
-use mathlib.Core.List.{List, map, List·Memᴰ, Sublistᴰ, Memᴰ·map}
+use Prim.Native.Nat.{_≤_}
+use mathlib.Core.Path.{_≡_, sym, ap, _∙_}
+use mathlib.Core.List.{Sublistᴰ, Memᴰ·map}
 use native.Mathlib.Omega.{arith}
 use Rattle.least.proofs.Fold.{sublist-map}
 use Rattle.rules.proofs.Withdraw.{withdraw-bound}
@@ -12,14 +12,13 @@ use Rattle.flows.specs.declared.Answer.{Answer}
 use Rattle.flows.specs.declared.Asked.the-variants.{Given}
 use Rattle.flows.specs.declared.Cause.the-variants.{Accepted}
 use Rattle.flows.specs.Lists.{held, flowOf, tableNet}
-use Rattle.row.specs.Rows.{without}
 use Rattle.row.proofs.Sets.{without-keeps, without-only}
 use Rattle.engine.specs.Verdicts.{asFigures}
-use Rattle.table.specs.Calls.{answered, holding, withdrawn, askedFor}
+use Rattle.table.specs.Calls.{answered, withdrawn, askedFor}
 use Rattle.table.specs.Made.{Made}
 use Rattle.table.specs.Figured.{Present}
 use Rattle.table.proofs.Nets.{part-lower}
-use Rattle.table.proofs.Kept.{Right, without-part, withdraw-right, made-right}
+use Rattle.table.proofs.Kept.{without-part, withdraw-right, made-right}
 use Rattle.table.proofs.Figures.{right-valid, right-accepting, asked-figures}
 use Rattle.table.proofs.Sets.{withdraw-done, withdraw-lmin, withdraw-lmax, withdraw-held}
 
