@@ -62,9 +62,9 @@ fn hold(t: Table, row: Row, verdict: Verdict) -> Table
 fn decide(t: Table, row: Row, verdict: Verdict) -> Answer
     ensures { λ r. ⌜ r ≡ decided t row verdict ⌝ }
 {
-    let cause = verdict.cause;
-    if !flows::accepted(cause) {
-        return hand_back(cause, t);
+    let fault = verdict.cause;
+    if !flows::accepted(fault) {
+        return hand_back(fault, t);
     }
     hand_back(Cause::Accepted, hold(t, row, verdict))
 }
