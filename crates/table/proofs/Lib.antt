@@ -1,0 +1,8 @@
+pub mod Nets
+pub mod Kept
+pub mod Figures
+pub mod Sets
+pub mod Calls
+pub mod Withdrawals
+pub mod Refusals
+pub mod Ways
