@@ -1,0 +1,82 @@
+//! The fixed plans.
+
+pub struct Flow {
+    pub number: u8,
+    pub priority: u8,
+    pub period: u16,
+    pub jitter: u16,
+    pub path: Vec<(u8, u16)>,
+}
+
+fn bytes(lmin: u16, lmax: u16, flows: &[Flow]) -> Vec<u8> {
+    let mut out = vec![1];
+    out.extend(lmin.to_be_bytes());
+    out.extend(lmax.to_be_bytes());
+    for f in flows {
+        out.extend([2, f.number, f.priority]);
+        out.extend(f.period.to_be_bytes());
+        out.extend(f.jitter.to_be_bytes());
+        out.extend(65535u16.to_be_bytes());
+        out.push(f.path.len() as u8);
+        for k in 0..8 {
+            out.push(f.path.get(k).map_or(0, |h| h.0));
+        }
+        for k in 0..8 {
+            out.extend(f.path.get(k).map_or(0, |h| h.1).to_be_bytes());
+        }
+    }
+    out.push(0x7f);
+    out
+}
+
+/// Sixteen flows over the same eight nodes, busy for 58,400 ticks.
+fn hall(priorities: u8, reversed: bool) -> Vec<u8> {
+    let flows: Vec<Flow> = (0..16u8)
+        .map(|a| {
+            let (period, cost) = if a % 2 == 0 {
+                (20000, 1300)
+            } else {
+                (30000, 1700)
+            };
+            let back = reversed && a % 2 == 1;
+            let path = (1..=8)
+                .map(|h| (if back { 9 - h } else { h }, cost))
+                .collect();
+            Flow {
+                number: a + 1,
+                priority: a % priorities,
+                period,
+                jitter: 0,
+                path,
+            }
+        })
+        .collect();
+    bytes(1, 2, &flows)
+}
+
+/// A name and a plan each.
+pub fn all() -> Vec<(&'static str, Vec<u8>)> {
+    let ring: Vec<Flow> = (0..16u8)
+        .map(|a| Flow {
+            number: a + 1,
+            priority: 0,
+            period: 150,
+            jitter: (a == 0) as u16,
+            path: vec![(a + 1, 50), ((a + 1) % 16 + 1, 50)],
+        })
+        .collect();
+    let one = [Flow {
+        number: 1,
+        priority: 0,
+        period: 20000,
+        jitter: 100,
+        path: (1..=8).map(|h| (h, 4000)).collect(),
+    }];
+    vec![
+        ("hall, three priorities", hall(3, false)),
+        ("hall, one priority", hall(1, false)),
+        ("ring that settles slowly", bytes(0, 50, &ring)),
+        ("refused by 9 after many turns", hall(1, true)),
+        ("one flow", bytes(1, 2, &one)),
+    ]
+}

@@ -1,0 +1,51 @@
+-- Whole plans: the table of a plan, or its refusal and place.
+use Prim.Native.Nat.{ℕ}
+use mathlib.Core.Bool.{cond}
+use mathlib.Core.List.{List, []}
+use lib.ListN.{replicate}
+use Rattle.flows.specs.declared.Figures.{Figures}
+use Rattle.flows.specs.declared.Row.{Row}
+use Rattle.flows.specs.declared.Table.{Table}
+use Rattle.flows.specs.declared.Answer.{Answer}
+use Rattle.flows.specs.declared.Cause.{Cause}
+use Rattle.flows.specs.declared.Cause.the-variants.{Accepted}
+use Rattle.flows.specs.Refusals.{acceptedBy}
+use Rattle.flows.specs.Lists.{mostFlows, held, rowOf}
+use Rattle.plan.specs.declared.Reading.{Reading}
+use Rattle.plan.specs.Reading.{readPlan}
+use Rattle.plan.specs.Writing.{planBytes}
+use Rattle.engine.specs.declared.Verdict.{Verdict}
+use Rattle.engine.specs.Verdicts.{noFigures, verdictOf}
+
+-- "the table of a refused plan, is the empty one with both link delays 0"
+unfoldable pub refusedPlan : Cause → ℕ → Answer
+refusedPlan cause place = record {
+  cause = cause;
+  place = place;
+  table = record { lmin = 0; lmax = 0; row = rowOf []; figures = replicate mostFlows noFigures };
+}
+
+unfoldable pub acceptedPlan : ℕ → ℕ → Row → List Figures → Answer
+acceptedPlan lmin lmax row figures = record {
+  cause = Accepted;
+  place = 0;
+  table = record { lmin = lmin; lmax = lmax; row = row; figures = figures };
+}
+
+unfoldable pub decidedBy : ℕ → ℕ → Row → Verdict → Answer
+decidedBy lmin lmax row v = cond (acceptedBy (v .cause)) (acceptedPlan lmin lmax row (v .figures)) (refusedPlan (v .cause) 0)
+
+-- "Then 7 to 10 on the whole set, place 0."
+unfoldable pub setAnswer : ℕ → ℕ → Row → Answer
+setAnswer lmin lmax row = decidedBy lmin lmax row (verdictOf lmin lmax row)
+
+-- records first
+unfoldable pub answerTo : Reading → Answer
+answerTo r = cond (acceptedBy (r .cause)) (setAnswer (r .lmin) (r .lmax) (r .row)) (refusedPlan (r .cause) (r .place))
+
+unfoldable pub planAnswer : List ℕ → Answer
+planAnswer b = answerTo (readPlan b)
+
+-- the bytes of a table
+abbrev pub tableBytes : Table → List ℕ
+tableBytes t = planBytes (t .lmin) (t .lmax) (held (t .row))
