@@ -1,20 +1,33 @@
 // Judges the plans of a corpus on standard input: for each, its length in two bytes, then its bytes.
 use libc::STDIN_FILENO;
+ghost use Prim.Native.Nat.{_<_};
 
-// Judges the next plan, and answers whether there was one. A frame that the input's end cuts short is none.
+// The high byte first.
+fn frame_length(high: u8, low: u8) -> usize
+    ensures { λ r. ⌜ r < 65536 ⌝ }
+{
+    high as usize * 256 + low as usize
+}
+
+// Judges a plan as long as this memory; false if the input ends before it does.
+fn judge_frame(frame: &mut [u8]) -> bool {
+    if io::read_full(STDIN_FILENO, frame) < frame.len() {
+        return false;
+    }
+    show::print_plan(frame);
+    show::put(b".\n");
+    true
+}
+
+// Judges the next plan, and answers whether there was one.
 fn judge_next() -> bool {
     let mut head = [0u8; 2];
     if io::read_full(STDIN_FILENO, &mut head) < 2 {
         return false;
     }
-    let n = head[0] as usize * 256 + head[1] as usize;
+    let n = frame_length(head[0], head[1]);
     let mut buffer = io::large_buffer();
-    if io::read_full(STDIN_FILENO, &mut buffer[0..n]) < n {
-        return false;
-    }
-    show::print_plan(&buffer[0..n]);
-    show::put(b".\n");
-    true
+    judge_frame(&mut buffer[0..n])
 }
 
 // Nothing says that an input ends, so the turns are counted down from a number that no run uses up.
