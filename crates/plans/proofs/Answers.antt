@@ -22,11 +22,12 @@ use Rattle.plan.specs.Reading.{readPlan}
 use Rattle.plan.proofs.Trips.{plan-lists, readable-valid}
 use Rattle.engine.specs.declared.Verdict.{Verdict}
 use Rattle.engine.specs.Verdicts.{noFigures, verdictOf}
+use Rattle.table.specs.Calls.{emptyTable}
 use Rattle.plans.specs.Plans.{refusedPlan, acceptedPlan, decidedBy, setAnswer, answerTo, planAnswer}
 
 pub refused-made : (cause : Cause) (place : ℕ) (row : Row) (none : Figures) → none ≡ noFigures → row ≡ rowOf [] →
     record { cause = cause; place = place; table = record { lmin = 0; lmax = 0; row = row; figures = replicate mostFlows none } } ≡ refusedPlan cause place
-unfolding refusedPlan
+unfolding refusedPlan emptyTable
 refused-made cause place row none e g =
     λ x. record { cause = cause; place = place; table = record { lmin = 0; lmax = 0; row = g x; figures = replicate mostFlows (e x) } }
 

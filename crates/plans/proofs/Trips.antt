@@ -1,8 +1,11 @@
--- Reading a written table gives that table; writing a table read from an accepted plan gives its bytes. Assumes nothing.
+-- Reading a written table gives that table; writing a table read from an accepted plan gives its bytes; what is read is as if made by calls.
+-- Assumes nothing.
 use Prim.Native.Nat.{ℕ}
 use mathlib.Core.Path.{_≡_, refl, sym, ap, _∙_, subst}
 use mathlib.Core.Bool.{Bool, true, false, cond, false≢true}
 use mathlib.Core.List.{List}
+use Rattle.rules.specs.Net as net
+use Rattle.rules.specs.Judge.{judged}
 use Rattle.flows.specs.declared.Flow.{Flow}
 use Rattle.flows.specs.declared.Figures.{Figures}
 use Rattle.flows.specs.declared.Row.{Row}
@@ -10,7 +13,7 @@ use Rattle.flows.specs.declared.Table.{Table}
 use Rattle.flows.specs.declared.Answer.{Answer}
 use Rattle.flows.specs.declared.Cause.the-variants.{Accepted}
 use Rattle.flows.specs.Refusals.{acceptedBy}
-use Rattle.flows.specs.Lists.{held, rowOf}
+use Rattle.flows.specs.Lists.{held, rowOf, netOf}
 use Rattle.row.proofs.Arrays.{held-rowOf}
 use Rattle.records.proofs.RoundTrip.{Bytes}
 use Rattle.plan.specs.declared.Reading.{Reading}
@@ -19,47 +22,74 @@ use Rattle.plan.specs.Writing.{planBytes}
 use Rattle.plan.specs.Sets.{Readable}
 use Rattle.plan.proofs.Trips.{Lists, plan-lists, write-read}
 use Rattle.engine.specs.declared.Verdict.{Verdict}
-use Rattle.engine.specs.Verdicts.{verdictOf}
+use Rattle.engine.specs.Verdicts.{refused, given, verdictFrom, verdictOf}
+use Rattle.table.specs.Calls.{answered}
+use Rattle.table.specs.Made.{Made}
+use Rattle.table.proofs.Kept.{netWith, Kept, Right, right-of, cause-refuses, made-right}
+use Rattle.table.proofs.Sets.{right-made}
 use Rattle.plans.specs.Plans.{refusedPlan, acceptedPlan, decidedBy, setAnswer, answerTo, planAnswer, tableBytes}
 
--- a table that holds a set which a plan can list and which is accepted, with the figures of its verdict
-pub record Right (t : Table) : Type 0 where
-  pub flows : List Flow
-  pub row : t .row ≡ rowOf flows
-  pub readable : Readable (t .lmin) (t .lmax) flows
-  pub accepted : acceptedBy (verdictOf (t .lmin) (t .lmax) (t .row) .cause) ≡ true
-  pub figures : t .figures ≡ verdictOf (t .lmin) (t .lmax) (t .row) .figures
+readable-kept : (lmin lmax : ℕ) (fs : List Flow) → Readable lmin lmax fs → Kept lmin lmax fs
+readable-kept lmin lmax fs s = record { delays = s .delays; rising = s .rising; count = s .count; flows = s .flows; typed = s .typed }
 
-accepted-decided : (lmin lmax : ℕ) (row : Row) (v : Verdict) → acceptedBy (v .cause) ≡ true → decidedBy lmin lmax row v ≡ acceptedPlan lmin lmax row (v .figures)
-unfolding decidedBy
-accepted-decided lmin lmax row v h = rw h
+kept-readable : (lmin lmax : ℕ) (fs : List Flow) → Kept lmin lmax fs → Readable lmin lmax fs
+kept-readable lmin lmax fs s = record { delays = s .delays; rising = s .rising; count = s .count; flows = s .flows; typed = s .typed }
+
+-- ---- written, then read
+given-decided : (lmin lmax : ℕ) (row : Row) (gs : List net.Figures) → judged (netOf lmin lmax row) ≡ net.Given gs →
+    setAnswer lmin lmax row ≡ acceptedPlan lmin lmax row (given gs .figures)
+unfolding setAnswer decidedBy verdictOf verdictFrom given
+given-decided lmin lmax row gs j = ap (λ (v : net.Judgement). decidedBy lmin lmax row (verdictFrom v)) j
+
+module _ (t : Table) (r : Right t) where
+  read-back : readPlan (tableBytes t) ≡ listed (t .lmin) (t .lmax) (t .row)
+  read-back =
+      write-read (t .lmin) (t .lmax) (held (t .row)) (kept-readable (t .lmin) (t .lmax) (held (t .row)) (r .set)) ∙
+      ap (listed (t .lmin) (t .lmax)) (sym (r .row))
+
+  right-back : planAnswer (tableBytes t) ≡ answered Accepted t
+  unfolding planAnswer answerTo acceptedPlan answered
+  right-back =
+      ap answerTo read-back ∙ given-decided (t .lmin) (t .lmax) (t .row) (r .givens) (r .accepted) ∙
+      ap (λ (f : List Figures). acceptedPlan (t .lmin) (t .lmax) (t .row) f) (sym (r .figures))
 
 -- Reading a written table gives that table
-pub write-read-table : (t : Table) → Right t → planAnswer (tableBytes t) ≡ record { cause = Accepted; place = 0; table = t }
-unfolding planAnswer answerTo setAnswer acceptedPlan
-write-read-table t s =
-    let same : held (t .row) ≡ s .flows = ap held (s .row) ∙ held-rowOf (s .flows) in
-    let bytes : tableBytes t ≡ planBytes (t .lmin) (t .lmax) (s .flows) = ap (planBytes (t .lmin) (t .lmax)) same in
-    let read : readPlan (tableBytes t) ≡ listed (t .lmin) (t .lmax) (t .row) =
-    ap readPlan bytes ∙ write-read (t .lmin) (t .lmax) (s .flows) (s .readable) ∙ ap (listed (t .lmin) (t .lmax)) (sym (s .row)) in
-    ap answerTo read ∙ accepted-decided (t .lmin) (t .lmax) (t .row) (verdictOf (t .lmin) (t .lmax) (t .row)) (s .accepted) ∙
-    ap (λ (f : List Figures). acceptedPlan (t .lmin) (t .lmax) (t .row) f) (sym (s .figures))
+pub write-read-table : (t : Table) → Made t → planAnswer (tableBytes t) ≡ answered Accepted t
+write-read-table t m = right-back t (made-right t m)
+
+-- ---- read, then written
+record Given (v : net.Judgement) : Type 0 where
+  givens : List net.Figures
+  judgement : v ≡ net.Given givens
+
+only-given : (v : net.Judgement) → acceptedBy (verdictFrom v .cause) ≡ true → Given v
+unfolding verdictFrom refused
+only-given (net.Refused k n) h = absurd (false≢true (sym (cause-refuses k n) ∙ h))
+only-given (net.Given gs) h = record { givens = gs; judgement = refl }
 
 -- what an accepted plan says of its records and of its set
 record Judged (b : List ℕ) (a : Answer) : Type 0 where
   lists : Lists b (readPlan b)
-  accepted : acceptedBy (verdictOf (lists .lmin) (lists .lmax) (rowOf (lists .flows)) .cause) ≡ true
-  answer : a ≡ acceptedPlan (lists .lmin) (lists .lmax) (rowOf (lists .flows)) (verdictOf (lists .lmin) (lists .lmax) (rowOf (lists .flows)) .figures)
+  givens : List net.Figures
+  accepted : judged (netOf (lists .lmin) (lists .lmax) (rowOf (lists .flows))) ≡ net.Given givens
+  answer : a ≡ acceptedPlan (lists .lmin) (lists .lmax) (rowOf (lists .flows)) (given givens .figures)
 
 set-judged : (b : List ℕ) (s : Lists b (readPlan b)) (a : Answer) → a ≡ setAnswer (s .lmin) (s .lmax) (rowOf (s .flows)) → acceptedBy (a .cause) ≡ true → Judged b a
-unfolding setAnswer decidedBy refusedPlan
+unfolding setAnswer decidedBy refusedPlan verdictOf
 set-judged b s a e h = go (acceptedBy (v .cause)) refl e
   where
     v : Verdict
     v = verdictOf (s .lmin) (s .lmax) (rowOf (s .flows))
 
     go : (p : Bool) → acceptedBy (v .cause) ≡ p → a ≡ cond p (acceptedPlan (s .lmin) (s .lmax) (rowOf (s .flows)) (v .figures)) (refusedPlan (v .cause) 0) → Judged b a
-    go true i g = record { lists = s; accepted = i; answer = g }
+    go true i g =
+        let o = only-given (judged (netOf (s .lmin) (s .lmax) (rowOf (s .flows)))) i in
+        record {
+          lists = s;
+          givens = o .givens;
+          accepted = o .judgement;
+          answer = e ∙ given-decided (s .lmin) (s .lmax) (rowOf (s .flows)) (o .givens) (o .judgement);
+        }
     go false i g = absurd (false≢true (sym i ∙ ap (λ (q : Answer). acceptedBy (q .cause)) (sym g) ∙ h))
 
 accepted-judged : (b : List ℕ) → Bytes b → acceptedBy (planAnswer b .cause) ≡ true → Judged b (planAnswer b)
@@ -82,15 +112,14 @@ module _ (b : List ℕ) (u : Bytes b) (h : acceptedBy (planAnswer b .cause) ≡ 
       let s = j .lists in
       ap (λ (a : Answer). tableBytes (a .table)) (j .answer) ∙ ap (planBytes (s .lmin) (s .lmax)) (held-rowOf (s .flows)) ∙ sym (s .bytes)
 
-  pub read-right : Right (planAnswer b .table)
+  -- An accepted plan's table could have been made by calls
+  pub read-made : Made (planAnswer b .table)
   unfolding acceptedPlan
-  read-right =
+  read-made =
       let j = accepted-judged b u h in
       let s = j .lists in
-      subst (λ (a : Answer). Right (a .table)) (sym (j .answer)) (record {
-        flows = s .flows;
-        row = refl;
-        readable = s .readable;
-        accepted = j .accepted;
-        figures = refl;
-      })
+      let same : judged (netWith (s .lmin) (s .lmax) (s .flows)) ≡ net.Given (j .givens) =
+      ap (λ (l : List Flow). judged (netWith (s .lmin) (s .lmax) l)) (sym (held-rowOf (s .flows))) ∙ j .accepted in
+      let t : Table = acceptedPlan (s .lmin) (s .lmax) (rowOf (s .flows)) (given (j .givens) .figures) .table in
+      subst (λ (a : Answer). Made (a .table)) (sym (j .answer))
+      (right-made t (right-of t (s .flows) (j .givens) refl (readable-kept (s .lmin) (s .lmax) (s .flows) (s .readable)) same refl))

@@ -1,8 +1,7 @@
 -- Whole plans: the table of a plan, or its refusal and place.
 use Prim.Native.Nat.{ℕ}
 use mathlib.Core.Bool.{cond}
-use mathlib.Core.List.{List, []}
-use lib.ListN.{replicate}
+use mathlib.Core.List.{List}
 use Rattle.flows.specs.declared.Figures.{Figures}
 use Rattle.flows.specs.declared.Row.{Row}
 use Rattle.flows.specs.declared.Table.{Table}
@@ -10,20 +9,17 @@ use Rattle.flows.specs.declared.Answer.{Answer}
 use Rattle.flows.specs.declared.Cause.{Cause}
 use Rattle.flows.specs.declared.Cause.the-variants.{Accepted}
 use Rattle.flows.specs.Refusals.{acceptedBy}
-use Rattle.flows.specs.Lists.{mostFlows, held, rowOf}
+use Rattle.flows.specs.Lists.{held}
 use Rattle.plan.specs.declared.Reading.{Reading}
 use Rattle.plan.specs.Reading.{readPlan}
 use Rattle.plan.specs.Writing.{planBytes}
 use Rattle.engine.specs.declared.Verdict.{Verdict}
-use Rattle.engine.specs.Verdicts.{noFigures, verdictOf}
+use Rattle.engine.specs.Verdicts.{verdictOf}
+use Rattle.table.specs.Calls.{emptyTable}
 
 -- "the table of a refused plan, is the empty one with both link delays 0"
 unfoldable pub refusedPlan : Cause → ℕ → Answer
-refusedPlan cause place = record {
-  cause = cause;
-  place = place;
-  table = record { lmin = 0; lmax = 0; row = rowOf []; figures = replicate mostFlows noFigures };
-}
+refusedPlan cause place = record { cause = cause; place = place; table = emptyTable 0 0 }
 
 unfoldable pub acceptedPlan : ℕ → ℕ → Row → List Figures → Answer
 acceptedPlan lmin lmax row figures = record {
