@@ -23,8 +23,9 @@ use Rattle.plan.specs.Sets.{Readable}
 use Rattle.plan.proofs.Trips.{Lists, plan-lists, write-read}
 use Rattle.engine.specs.declared.Verdict.{Verdict}
 use Rattle.engine.specs.Verdicts.{refused, given, verdictFrom, verdictOf}
-use Rattle.table.specs.Calls.{answered}
-use Rattle.table.specs.Made.{Made}
+use Rattle.flows.specs.Tests.{delayCause}
+use Rattle.table.specs.Calls.{emptyTable, answered, unless, freshAnswer}
+use Rattle.table.specs.Made.{Made, by-fresh}
 use Rattle.table.proofs.Kept.{netWith, Kept, Right, right-of, cause-refuses, made-right}
 use Rattle.table.proofs.Sets.{right-made}
 use Rattle.plans.specs.Plans.{refusedPlan, acceptedPlan, decidedBy, setAnswer, answerTo, planAnswer, tableBytes}
@@ -123,3 +124,32 @@ module _ (b : List ℕ) (u : Bytes b) (h : acceptedBy (planAnswer b .cause) ≡ 
       let t : Table = acceptedPlan (s .lmin) (s .lmax) (rowOf (s .flows)) (given (j .givens) .figures) .table in
       subst (λ (a : Answer). Made (a .table)) (sym (j .answer))
       (right-made t (right-of t (s .flows) (j .givens) refl (readable-kept (s .lmin) (s .lmax) (s .flows) (s .readable)) same refl))
+
+-- ---- any plan
+module _ (b : List ℕ) where
+  -- "the table of a refused plan, is the empty one with both link delays 0"
+  pub refused-table : acceptedBy (planAnswer b .cause) ≡ false → planAnswer b .table ≡ emptyTable 0 0
+  unfolding planAnswer answerTo setAnswer decidedBy acceptedPlan refusedPlan
+  refused-table = go (acceptedBy (r .cause)) (acceptedBy (v .cause))
+    where
+      r : Reading
+      r = readPlan b
+
+      v : Verdict
+      v = verdictOf (r .lmin) (r .lmax) (r .row)
+
+      answer : Bool → Bool → Answer
+      answer p q = cond p (cond q (acceptedPlan (r .lmin) (r .lmax) (r .row) (v .figures)) (refusedPlan (v .cause) 0)) (refusedPlan (r .cause) (r .place))
+
+      go : (p q : Bool) → acceptedBy (answer p q .cause) ≡ false → answer p q .table ≡ emptyTable 0 0
+      go true true h = absurd (false≢true (sym h))
+      go true false h = refl
+      go false q h = refl
+
+  pub answer-made : Bytes b → Made (planAnswer b .table)
+  unfolding freshAnswer unless answered delayCause
+  answer-made u = go (acceptedBy (planAnswer b .cause)) refl
+    where
+      go : (p : Bool) → acceptedBy (planAnswer b .cause) ≡ p → Made (planAnswer b .table)
+      go true h = read-made b u h
+      go false h = subst Made (sym (refused-table h)) (by-fresh 0 0)

@@ -1,0 +1,47 @@
+// The host's functions.
+use flows::Answer;
+use flows::Asked;
+ghost use mathlib.Core.Path.{_≡_};
+ghost use Prim.Native.Nat.{_≤_};
+ghost use Rattle.plans.specs.Plans.{planAnswer};
+ghost use Rattle.host.specs.Host.{mostPlace, codeOf, boundIn, planCode, planBound};
+
+fn code(answer: Answer) -> u64
+    requires { ⌜ answer .place ≤ mostPlace ⌝ }
+    ensures { λ r. ⌜ r ≡ codeOf answer ⌝ }
+{
+    let cause = answer.cause;
+    let number = flows::refusal_number(cause) as u64;
+    let flow = flows::flow_named(cause) as u64;
+    number + 256 * flow + 65536 * answer.place as u64
+}
+
+fn bound_in(answer: Answer, number: u8) -> u64
+    ensures { λ r. ⌜ r ≡ boundIn answer number ⌝ }
+{
+    let table = answer.table;
+    let asked = table::ask(table, number);
+    match asked {
+        Asked::Given(g) => g.bound as u64,
+        Asked::Refused(_) => 0,
+    }
+}
+
+// 0 for an accepted plan, else number + 256 × flow + 65,536 × place.
+#[no_mangle]
+pub extern "C" fn kezhuvanam_judge(plan: &[u8]) -> u64
+    ensures { λ r. ⌜ r ≡ planCode (now (plan .entry)) ⌝ }
+{
+    code(plans::read_plan(plan))
+}
+
+// That flow's bound, or 0 exactly if the plan is refused or lacks it.
+#[no_mangle]
+pub extern "C" fn kezhuvanam_bound(plan: &[u8], number: u64) -> u64
+    ensures { λ r. ⌜ r ≡ planBound (now (plan .entry)) number ⌝ }
+{
+    if 255 < number {
+        return 0;
+    }
+    bound_in(plans::read_plan(plan), number as u8)
+}
