@@ -76,7 +76,7 @@ pub fn all() -> Vec<(&'static str, Vec<u8>)> {
         ("hall, three priorities", hall(3, false)),
         ("hall, one priority", hall(1, false)),
         ("ring that settles slowly", bytes(0, 50, &ring)),
-        ("refused by 9 after many turns", hall(1, true)),
+        ("hall, half of the paths reversed", hall(1, true)),
         ("one flow", bytes(1, 2, &one)),
     ]
 }
