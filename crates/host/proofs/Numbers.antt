@@ -1,5 +1,5 @@
--- Places that fit, flow numbers past 255, and what 0 says. Assumes nothing.
-use Prim.Native.Nat.{ℕ, suc, _≤_, _<_}
+-- Places that fit, and flow numbers past 255. Assumes nothing.
+use Prim.Native.Nat.{ℕ, _≤_, _<_}
 use mathlib.Core.Path.{_≡_, refl, sym, ap, _∙_, subst}
 use mathlib.Core.Bool.{Bool, true, false, cond}
 use mathlib.Core.List.{List, [], _∷_}
@@ -7,7 +7,7 @@ use native.Mathlib.Omega.{arith}
 use lib.ListN.{length, getD}
 use mir.Val.{Fits}
 use mir.Syntax.{w8}
-use borrow.Author.Tests.{eq-eqb, ne-eqb, le-ltb}
+use borrow.Author.Tests.{ne-eqb, le-ltb}
 use Rattle.flows.specs.declared.Flow.{Flow}
 use Rattle.flows.specs.declared.Row.{Row}
 use Rattle.flows.specs.declared.Table.{Table}
@@ -16,20 +16,18 @@ use Rattle.flows.specs.declared.Asked.{Asked}
 use Rattle.flows.specs.declared.Asked.the-variants.{Given, Refused}
 use Rattle.flows.specs.declared.Figures.{Figures}
 use Rattle.flows.specs.declared.Refusal.{Refusal}
-use Rattle.flows.specs.Refusals.{numberOf, acceptedBy}
-use Rattle.flows.specs.Lists.{held, rowOf}
-use Rattle.flows.specs.WellFormed.{Each, each-none, each-more, Typed}
+use Rattle.flows.specs.Refusals.{acceptedBy}
+use Rattle.flows.specs.Lists.{held}
+use Rattle.flows.specs.WellFormed.{Each, each-more, Typed}
 use Rattle.row.specs.declared.Found.{Found}
 use Rattle.row.specs.declared.Found.the-variants.{Nothing}
 use Rattle.row.specs.Rows.{firstOf, placeOf, foundIn}
-use Rattle.row.proofs.Arrays.{held-rowOf}
-use Rattle.records.proofs.RoundTrip.{Bytes}
 use Rattle.plan.specs.declared.Reading.{Reading}
 use Rattle.plan.specs.Reading.{readPlan}
 use Rattle.plan.proofs.Refusals.{place-inside}
 use Rattle.engine.specs.declared.Verdict.{Verdict}
 use Rattle.engine.specs.Verdicts.{verdictOf}
-use Rattle.table.specs.Calls.{emptyTable, askedBy, askedFor}
+use Rattle.table.specs.Calls.{askedBy, askedFor}
 use Rattle.table.specs.Made.{Made}
 use Rattle.table.proofs.Kept.{made-right}
 use Rattle.plans.specs.Plans.{refusedPlan, acceptedPlan, decidedBy, setAnswer, answerTo, planAnswer}
@@ -98,8 +96,3 @@ module _ (t : Table) (n : ℕ) (a : Asked) (e : a ≡ askedFor t n) where
 pub bounded : (b : List ℕ) (a : Answer) (n m r : ℕ) → a ≡ planAnswer b → m ≡ n → r ≡ boundIn a m → r ≡ planBound b n
 unfolding planBound
 bounded b a n m r e g h = h ∙ ap (boundIn a) g ∙ ap (λ (q : Answer). boundIn q n) e
-
--- ---- what 0 says
-pub judge-zero : (b : List ℕ) → planCode b ≡ 0 → acceptedBy (planAnswer b .cause) ≡ true
-unfolding planCode
-judge-zero b e = eq-eqb (numberOf (planAnswer b .cause)) 0 (omega (arith, e))

@@ -126,25 +126,37 @@ module _ (b : List ℕ) (u : Bytes b) (h : acceptedBy (planAnswer b .cause) ≡ 
       (right-made t (right-of t (s .flows) (j .givens) refl (readable-kept (s .lmin) (s .lmax) (s .flows) (s .readable)) same refl))
 
 -- ---- any plan
+-- the answer to a reading, by whether its records and its set are accepted
+abbrev answerBy : Reading → Verdict → Bool → Bool → Answer
+answerBy r v records set =
+    cond records (cond set (acceptedPlan (r .lmin) (r .lmax) (r .row) (v .figures)) (refusedPlan (v .cause) 0)) (refusedPlan (r .cause) (r .place))
+
+module _ (r : Reading) (v : Verdict) where
+  refused-empty : (p q : Bool) → acceptedBy (answerBy r v p q .cause) ≡ false → answerBy r v p q .table ≡ emptyTable 0 0
+  unfolding acceptedPlan refusedPlan
+  refused-empty true true h = absurd (false≢true (sym h))
+  refused-empty true false h = refl
+  refused-empty false q h = refl
+
+  accepted-start : (p q : Bool) → acceptedBy (r .cause) ≡ p → acceptedBy (answerBy r v p q .cause) ≡ true → answerBy r v p q .place ≡ 0
+  unfolding acceptedPlan refusedPlan
+  accepted-start true true e h = refl
+  accepted-start true false e h = refl
+  accepted-start false q e h = absurd (false≢true (sym e ∙ h))
+
+abbrev verdictOn : Reading → Verdict
+verdictOn r = verdictOf (r .lmin) (r .lmax) (r .row)
+
 module _ (b : List ℕ) where
   -- "the table of a refused plan, is the empty one with both link delays 0"
   pub refused-table : acceptedBy (planAnswer b .cause) ≡ false → planAnswer b .table ≡ emptyTable 0 0
-  unfolding planAnswer answerTo setAnswer decidedBy acceptedPlan refusedPlan
-  refused-table = go (acceptedBy (r .cause)) (acceptedBy (v .cause))
-    where
-      r : Reading
-      r = readPlan b
+  unfolding planAnswer answerTo setAnswer decidedBy
+  refused-table = refused-empty (readPlan b) (verdictOn (readPlan b)) (acceptedBy (readPlan b .cause)) (acceptedBy (verdictOn (readPlan b) .cause))
 
-      v : Verdict
-      v = verdictOf (r .lmin) (r .lmax) (r .row)
-
-      answer : Bool → Bool → Answer
-      answer p q = cond p (cond q (acceptedPlan (r .lmin) (r .lmax) (r .row) (v .figures)) (refusedPlan (v .cause) 0)) (refusedPlan (r .cause) (r .place))
-
-      go : (p q : Bool) → acceptedBy (answer p q .cause) ≡ false → answer p q .table ≡ emptyTable 0 0
-      go true true h = absurd (false≢true (sym h))
-      go true false h = refl
-      go false q h = refl
+  pub accepted-place : acceptedBy (planAnswer b .cause) ≡ true → planAnswer b .place ≡ 0
+  unfolding planAnswer answerTo setAnswer decidedBy
+  accepted-place =
+      accepted-start (readPlan b) (verdictOn (readPlan b)) (acceptedBy (readPlan b .cause)) (acceptedBy (verdictOn (readPlan b) .cause)) refl
 
   pub answer-made : Bytes b → Made (planAnswer b .table)
   unfolding freshAnswer unless answered delayCause

@@ -1,0 +1,84 @@
+-- What 0 says: an accepted plan; a plan that is refused or lacks the flow. Assumes nothing.
+use Prim.Native.Nat.{ℕ, _<_}
+use mathlib.Core.Path.{_≡_, refl, ap, _∙_, subst}
+use mathlib.Core.Bool.{true, false}
+use mathlib.Core.List.{List, [], _∷_, List·Memᴰ, List·Memᴰ·head, List·Memᴰ·not-nil, Memᴰ·map}
+use native.Mathlib.Omega.{arith}
+use lib.ListN.{length}
+use borrow.Author.Tests.{eq-eqb}
+use Rattle.least.specs.Fold.{sumOf}
+use Rattle.rules.specs.Net as net
+use Rattle.rules.specs.Formula.{least}
+use Rattle.rules.specs.Valid.{InRange}
+use Rattle.rules.proofs.Exact.{jitter-exact}
+use Rattle.flows.specs.declared.Flow.{Flow}
+use Rattle.flows.specs.declared.Table.{Table}
+use Rattle.flows.specs.Refusals.{numberOf, acceptedBy, flowNamed}
+use Rattle.flows.specs.Lists.{held, flowOf, tableNet}
+use Rattle.flows.proofs.Causes.{accepted-only}
+use Rattle.row.proofs.Arrays.{held-rowOf}
+use Rattle.records.proofs.RoundTrip.{Bytes}
+use Rattle.table.specs.Calls.{emptyTable, askedFor}
+use Rattle.table.specs.Made.{Made}
+use Rattle.table.specs.Figured.{Present}
+use Rattle.table.proofs.Figures.{made-valid, made-figured}
+use Rattle.table.proofs.Calls.{ask-refused}
+use Rattle.plans.specs.Plans.{planAnswer}
+use Rattle.plans.proofs.Trips.{refused-table, answer-made, accepted-place}
+use Rattle.host.specs.Host.{boundOf, planCode, planBound}
+
+-- ---- the plan's number
+module _ (b : List ℕ) where
+  pub zero-accepted : planCode b ≡ 0 → acceptedBy (planAnswer b .cause) ≡ true
+  unfolding planCode
+  zero-accepted e = eq-eqb (numberOf (planAnswer b .cause)) 0 (omega arith)
+
+  pub accepted-zero : acceptedBy (planAnswer b .cause) ≡ true → planCode b ≡ 0
+  unfolding planCode
+  accepted-zero h =
+      let c = accepted-only (planAnswer b .cause) h in
+      let n : numberOf (planAnswer b .cause) ≡ 0 = ap numberOf c in
+      let f : flowNamed (planAnswer b .cause) ≡ 0 = ap flowNamed c in
+      omega (arith, accepted-place b h)
+
+-- ---- a flow's bound
+costs-some : (i : net.Flow) → InRange i → 0 < sumOf least (i .path)
+unfolding sumOf
+costs-some i r = go (i .path) (r .nodes) (r .costs)
+  where
+    go : (l : List net.Hop) → 0 < length l → ((k : net.Hop) → List·Memᴰ k l → 0 < k .cost) → 0 < sumOf least l
+    go [] h c = absurd (omega arith)
+    go (k ∷ l) h c = omega (arith, c k (List·Memᴰ·head refl))
+
+made-bound : (t : Table) → Made t → (f : Flow) → Present t f → 0 < boundOf (askedFor t (f .number))
+unfolding boundOf
+made-bound t m f p =
+    let g = made-figured t m in
+    let s = g .stored f p in
+    let v = made-valid t m in
+    let r = v .flows (flowOf f) (Memᴰ·map flowOf p) in
+    let e : boundOf (askedFor t (f .number)) ≡ s .shown .bound = ap boundOf (s .asking) in
+    omega (arith, costs-some (flowOf f) r, jitter-exact (tableNet t) (flowOf f) (v .links) r (g .arrivals) (s .shown .bound) (s .right .bound))
+
+module _ (b : List ℕ) (n : ℕ) where
+  -- no flow of that number
+  pub Lacks : Type 0
+  Lacks = (f : Flow) → Present (planAnswer b .table) f → f .number ≡ n → ⊥
+
+  pub lacks-zero : Lacks → planBound b n ≡ 0
+  unfolding planBound boundOf Lacks
+  lacks-zero a = ap boundOf (ask-refused (planAnswer b .table) n a)
+
+  pub refused-zero : acceptedBy (planAnswer b .cause) ≡ false → planBound b n ≡ 0
+  unfolding Lacks emptyTable
+  refused-zero h = lacks-zero (λ f p q. List·Memᴰ·not-nil (subst (λ (l : List Flow). List·Memᴰ f l) none p))
+    where
+      none : held (planAnswer b .table .row) ≡ []
+      none = ap (λ (t : Table). held (t .row)) (refused-table b h) ∙ held-rowOf []
+
+  pub zero-lacks : Bytes b → planBound b n ≡ 0 → Lacks
+  unfolding planBound Lacks
+  zero-lacks u e f p q =
+      let w = made-bound (planAnswer b .table) (answer-made b u) f p in
+      let z : boundOf (askedFor (planAnswer b .table) (f .number)) ≡ 0 = ap (λ (k : ℕ). boundOf (askedFor (planAnswer b .table) k)) q ∙ e in
+      omega arith
