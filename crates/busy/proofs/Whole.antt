@@ -15,9 +15,8 @@ use Rattle.rules.specs.Judge as rules
 use Rattle.rules.proofs.Path.{visits-member}
 use Rattle.flows.specs.declared.Flow.{Flow}
 use Rattle.flows.specs.declared.Row.{Row}
-use Rattle.flows.specs.Lists.{pathOf, flowOf, held}
+use Rattle.flows.specs.Lists.{pathOf, flowOf, held, netOf}
 use Rattle.paths.proofs.Loops.{any-here, any-end}
-use Rattle.sums.specs.Whole.{netWith}
 use Rattle.sums.proofs.Shared.{sum-crossings, weight-whole}
 use Rattle.busy.specs.Load.{packetsIn, loadBy, loadOver, strays}
 
@@ -47,7 +46,7 @@ module _ (row : Row) (i : Flow) where
   unfolding loadOver
   load-start b x e = ap (λ y. y + sumOf (loadBy b i) (held row)) e
 
-  pub load-whole : (lmin lmax b : ℕ) → loadOver row i b ≡ load (netWith row lmin lmax) (flowOf i) b
+  pub load-whole : (lmin lmax b : ℕ) → loadOver row i b ≡ load (netOf lmin lmax row) (flowOf i) b
   unfolding load loadOver ownWeight
   load-whole lmin lmax b =
       ap (λ s. packetsIn b i i + s)
@@ -55,9 +54,6 @@ module _ (row : Row) (i : Flow) where
       (λ j m. ap (λ c. pick (higherOrEqual (role (flowOf i) (flowOf j))) (ceil b (j .period) * c) 0)
       (sym (weight-whole row i lmin lmax (pathOf i) (λ k q. visits-member q) j)))
       ∙ sym (sum-crossings row i lmin lmax _))
-
-  pub load-made : (b r : ℕ) → r ≡ loadOver row i b → (lmin lmax : ℕ) → r ≡ load (netWith row lmin lmax) (flowOf i) b
-  load-made b r e lmin lmax = e ∙ load-whole lmin lmax b
 
 -- the crossing test
 module _ (i j : Flow) where
@@ -70,14 +66,14 @@ module _ (i j : Flow) where
   strays-back r h e = rw (le-leb (i .priority) (j .priority) h) e
 
 module _ (row : Row) (i : Flow) where
-  misplaced-whole : (lmin lmax : ℕ) → anyOf (strays i) (held row) ≡ rules.misplaced (netWith row lmin lmax) (flowOf i)
+  misplaced-whole : (lmin lmax : ℕ) → anyOf (strays i) (held row) ≡ rules.misplaced (netOf lmin lmax row) (flowOf i)
   unfolding rules.misplaced strays
   misplaced-whole lmin lmax = sym (any-map _ flowOf (held row))
 
   module _ (n k : ℕ) (len : n ≡ length (held row)) (inv : anyOf (strays i) (drop k (held row)) ≡ anyOf (strays i) (held row)) where
     pub misplaced-here : (d j : Flow) (x : Bool) → k < n → j ≡ getD (held row) k d → x ≡ strays i j → x ≡ true →
-        (lmin lmax : ℕ) → true ≡ rules.misplaced (netWith row lmin lmax) (flowOf i)
+        (lmin lmax : ℕ) → true ≡ rules.misplaced (netOf lmin lmax row) (flowOf i)
     misplaced-here d j x h e q t lmin lmax = any-here (strays i) (held row) n k len _ inv d j x h e q t ∙ misplaced-whole lmin lmax
 
-    pub misplaced-end : n ≤ k → (lmin lmax : ℕ) → false ≡ rules.misplaced (netWith row lmin lmax) (flowOf i)
+    pub misplaced-end : n ≤ k → (lmin lmax : ℕ) → false ≡ rules.misplaced (netOf lmin lmax row) (flowOf i)
     misplaced-end h lmin lmax = any-end (strays i) (held row) n k len _ inv h ∙ misplaced-whole lmin lmax

@@ -4,17 +4,15 @@ use flows::Row;
 ghost use mathlib.Core.Path.{_≡_};
 ghost use Prim.Native.Nat.{ℕ, _*_, _≤_};
 ghost use Rattle.least.specs.Count.{ceil};
-ghost use Rattle.rules.specs.Formula.{load};
 ghost use Rattle.rules.specs.Judge.{busyLength, misplaced};
-ghost use Rattle.flows.specs.Lists.{flowOf};
-ghost use Rattle.sums.specs.Whole.{netWith};
+ghost use Rattle.flows.specs.Lists.{flowOf, netOf};
 ghost use Rattle.busy.specs.Load.{packetsIn, loadBy, loadOver, nextLength, strays};
 
 // One more than the horizon H: no busy length.
 const PAST: u64 = 65536;
 
 // ceil(b / T); 0 where T is 0.
-pub fn ceil_of(b: u64, period: u16) -> u64
+fn ceil_of(b: u64, period: u16) -> u64
     requires { ⌜ b ≤ 65536 ⌝ }
     ensures { λ r. ⌜ r ≡ ceil b period ⌝ }
     ensures { λ r. ⌜ r ≤ 65536 ⌝ }
@@ -46,6 +44,7 @@ fn load_by(b: u64, i: Flow, j: Flow) -> u64
     packets_in(b, i, j)
 }
 
+// The sum of which i's busy length is the least solution.
 fn load_on(row: Row, i: Flow, b: u64) -> u64
     requires { ⌜ b ≤ 65536 ⌝ }
     ensures { λ r. ⌜ r ≡ loadOver row i b ⌝ }
@@ -61,26 +60,17 @@ fn load_on(row: Row, i: Flow, b: u64) -> u64
     sum
 }
 
-// The sum of which i's busy length is the least solution.
-pub fn load(row: Row, i: Flow, b: u64) -> u64
-    requires { ⌜ b ≤ 65536 ⌝ }
-    ensures { λ r. ⌜ ((lmin lmax : ℕ) → r ≡ load (netWith row lmin lmax) (flowOf i) b) ⌝ }
-    ensures { λ r. ⌜ r ≤ 17 * (65536 * 65535) ⌝ }
-{
-    load_on(row, i, b)
-}
-
 // The next length to try after b: the load, from 1 to past H.
 fn next_length(row: Row, i: Flow, b: u64) -> u64
     requires { ⌜ b ≤ 65536 ⌝ }
     ensures { λ r. ⌜ r ≡ nextLength row i b ⌝ }
 {
-    paths::lesser(PAST, paths::greater(1, load_on(row, i, b)))
+    least::lesser(PAST, least::greater(1, load_on(row, i, b)))
 }
 
 // H + 1 if there is none.
 pub fn busy_length(row: Row, i: Flow) -> u64
-    ensures { λ r. ⌜ ((lmin lmax : ℕ) → r ≡ busyLength (netWith row lmin lmax) (flowOf i)) ⌝ }
+    ensures { λ r. ⌜ ((lmin lmax : ℕ) → r ≡ busyLength (netOf lmin lmax row) (flowOf i)) ⌝ }
     ensures { λ r. ⌜ r ≤ 65536 ⌝ }
 {
     let mut b: u64 = 0;
@@ -106,7 +96,7 @@ fn strays_from(i: Flow, j: Flow) -> bool
 
 // Whether a flow breaks the crossing assumption at i.
 pub fn misplaced_flow(row: Row, i: Flow) -> bool
-    ensures { λ r. ⌜ ((lmin lmax : ℕ) → r ≡ misplaced (netWith row lmin lmax) (flowOf i)) ⌝ }
+    ensures { λ r. ⌜ ((lmin lmax : ℕ) → r ≡ misplaced (netOf lmin lmax row) (flowOf i)) ⌝ }
 {
     let n = row::size(row);
     let mut k: usize = 0;

@@ -3,3 +3,4 @@ pub mod Tables
 pub mod Holding
 pub mod Reading
 pub mod Setting
+pub mod Only

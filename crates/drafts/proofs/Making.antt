@@ -10,11 +10,10 @@ use Rattle.rules.specs.Net as net
 use Rattle.rules.specs.Formula.{Role, role}
 use Rattle.flows.specs.declared.Flow.{Flow}
 use Rattle.flows.specs.declared.Row.{Row}
-use Rattle.flows.specs.Lists.{mostFlows, mostNodes, noFlow, pathOf, flowOf, held}
+use Rattle.flows.specs.Lists.{mostFlows, mostNodes, noFlow, pathOf, flowOf, held, netOf}
 use Rattle.pairs.specs.declared.Side.{Side}
 use Rattle.pairs.specs.Pairs.{sideRole}
 use Rattle.paths.specs.Paths.{hopAt}
-use Rattle.sums.specs.Whole.{netWith}
 use Rattle.starts.specs.Sheet.{entrySize, blockSize, sheetSize}
 use Rattle.sheets.specs.Fields as fields
 use Rattle.sheets.specs.Fields.{flowAt, nodeAt, upTo, lookOf, plusOf, lessOf, weightOf, fromOf, alsoOf, baseOf, addedOf}
@@ -30,7 +29,7 @@ size-is row n e = e ∙ sym (length-map (held row) flowOf)
 
 module _ (row : Row) (lmin lmax a p : ℕ) (i : Flow) (ei : i ≡ getD (held row) a noFlow) where
   abbrev N : Net
-  N = netWith row lmin lmax
+  N = netOf lmin lmax row
 
   module _ (b : ℕ) (j : Flow) (ej : j ≡ getD (held row) b noFlow) (s : Side) (es : sideRole s ≡ role (flowOf i) (flowOf j))
       (P : List Hop) (eP : P ≡ take (p + 1) (pathOf i)) where
@@ -52,7 +51,7 @@ module _ (row : Row) (lmin lmax a p : ℕ) (i : Flow) (ei : i ≡ getD (held row
 
       module _ (c0 : c ≡ 0 → ⊥) where
         pub entry-plus : (h : ℕ) → h ≡ hopAt i p .node → c ≡ 1 →
-            (x : ℕ) → ((row : Row) (lmin : ℕ) → x ≡ plusOf (netWith row lmin lmax) (flowOf i) (flowOf j) P h (sideRole s)) →
+            (x : ℕ) → ((row : Row) (lmin : ℕ) → x ≡ plusOf (netOf lmin lmax row) (flowOf i) (flowOf j) P h (sideRole s)) →
             (y : ℕ) → ((N : Net) (i : Flow) (h : ℕ) → y ≡ fromOf N (flowOf i) (flowOf j) P h b (sideRole s)) →
             (z : ℕ) → ((N : Net) (h : ℕ) → z ≡ alsoOf N (flowOf i) (flowOf j) P h a (sideRole s)) →
             record { number = x; first = y; second = z } ≡ entryCell N a p b c
@@ -67,7 +66,7 @@ module _ (row : Row) (lmin lmax a p : ℕ) (i : Flow) (ei : i ≡ getD (held row
 
         module _ (c1 : c ≡ 1 → ⊥) where
           pub entry-less : (h : ℕ) → h ≡ hopAt i p .node → c ≡ 2 → (x : ℕ) →
-              ((lmax : ℕ) → x ≡ lessOf (netWith row lmin lmax) (flowOf i) (flowOf j) P h (sideRole s)) → r ≡ alone x → r ≡ entryCell N a p b c
+              ((lmax : ℕ) → x ≡ lessOf (netOf lmin lmax row) (flowOf i) (flowOf j) P h (sideRole s)) → r ≡ alone x → r ≡ entryCell N a p b c
           unfolding entryCell
           entry-less h eh ec x e er = rw (ne-eqb c 0 c0, ne-eqb c 1 c1, eq-eqb c 2 ec) (er ∙ ap alone (field (lessOf N) h eh x (e lmax)))
 
@@ -86,7 +85,7 @@ module _ (row : Row) (lmin lmax a p : ℕ) (i : Flow) (ei : i ≡ getD (held row
                 (er ∙ ap alone (field (weightOf N) (hopAt i p .node) refl x (e N (hopAt i p .node))))
 
   module _ (f : ℕ) (r : Cell) where
-    pub block-base : f ≡ 0 → (x : ℕ) → ((lmin : ℕ) → x ≡ baseOf (netWith row lmin lmax) (flowOf i) (upTo (flowOf i) p) (nodeAt (flowOf i) p)) →
+    pub block-base : f ≡ 0 → (x : ℕ) → ((lmin : ℕ) → x ≡ baseOf (netOf lmin lmax row) (flowOf i) (upTo (flowOf i) p) (nodeAt (flowOf i) p)) →
         r ≡ alone x → r ≡ blockCell N a p f
     unfolding blockCell
     block-base ef x e er =
@@ -101,41 +100,41 @@ module _ (row : Row) (lmin lmax a p : ℕ) (i : Flow) (ei : i ≡ getD (held row
 
 -- past the flows, and of a flow
 module _ (row : Row) (lmin lmax a p f : ℕ) (r : Cell) (f0 : f ≡ 0 → ⊥) (f1 : f ≡ 1 → ⊥) (n : ℕ) (en : n ≡ length (held row)) where
-  pub block-past : n ≤ (f - 2) / entrySize → r ≡ alone 0 → r ≡ blockCell (netWith row lmin lmax) a p f
+  pub block-past : n ≤ (f - 2) / entrySize → r ≡ alone 0 → r ≡ blockCell (netOf lmin lmax row) a p f
   unfolding blockCell
   block-past h er =
       rw (ne-eqb f 0 f0, ne-eqb f 1 f1, le-ltb ((f - 2) / entrySize) (length (map flowOf (held row))) (omega (arith, size-is row n en))) er
 
-  pub block-entry : (f - 2) / entrySize < n → r ≡ entryCell (netWith row lmin lmax) a p ((f - 2) / entrySize) ((f - 2) % entrySize) →
-      r ≡ blockCell (netWith row lmin lmax) a p f
+  pub block-entry : (f - 2) / entrySize < n → r ≡ entryCell (netOf lmin lmax row) a p ((f - 2) / entrySize) ((f - 2) % entrySize) →
+      r ≡ blockCell (netOf lmin lmax row) a p f
   unfolding blockCell
   block-entry h er =
       rw (ne-eqb f 0 f0, ne-eqb f 1 f1, lt-ltb ((f - 2) / entrySize) (length (map flowOf (held row))) (omega (arith, size-is row n en))) er
 
 module _ (row : Row) (lmin lmax k : ℕ) (r : Cell) (n : ℕ) (en : n ≡ length (held row)) where
-  pub cell-past : n ≤ k / sheetSize → r ≡ alone 0 → r ≡ cellAt (netWith row lmin lmax) k
+  pub cell-past : n ≤ k / sheetSize → r ≡ alone 0 → r ≡ cellAt (netOf lmin lmax row) k
   unfolding sheetCell
   cell-past h er = rw (le-ltb (k / sheetSize) (length (map flowOf (held row))) (omega (arith, size-is row n en))) er
 
   module _ (on : k / sheetSize < n) (i : Flow) (ei : i ≡ getD (held row) (k / sheetSize) noFlow) (m : ℕ) (em : m ≡ length (pathOf i)) where
-    long : m ≡ length (flowAt (netWith row lmin lmax) (k / sheetSize) .path)
+    long : m ≡ length (flowAt (netOf lmin lmax row) (k / sheetSize) .path)
     long = em ∙ ap (λ (i : net.Flow). length (i .path)) (flow-is row (k / sheetSize) i ei)
 
-    pub cell-end : m ≤ k % sheetSize / blockSize → r ≡ alone 0 → r ≡ cellAt (netWith row lmin lmax) k
+    pub cell-end : m ≤ k % sheetSize / blockSize → r ≡ alone 0 → r ≡ cellAt (netOf lmin lmax row) k
     unfolding sheetCell
     cell-end h er =
         rw (
           lt-ltb (k / sheetSize) (length (map flowOf (held row))) (omega (arith, size-is row n en)),
-          le-ltb (k % sheetSize / blockSize) (length (flowAt (netWith row lmin lmax) (k / sheetSize) .path)) (omega (arith, long)),
+          le-ltb (k % sheetSize / blockSize) (length (flowAt (netOf lmin lmax row) (k / sheetSize) .path)) (omega (arith, long)),
         ) er
 
     pub cell-on : k % sheetSize / blockSize < m →
-        r ≡ blockCell (netWith row lmin lmax) (k / sheetSize) (k % sheetSize / blockSize) (k % sheetSize % blockSize) → r ≡ cellAt (netWith row lmin lmax) k
+        r ≡ blockCell (netOf lmin lmax row) (k / sheetSize) (k % sheetSize / blockSize) (k % sheetSize % blockSize) → r ≡ cellAt (netOf lmin lmax row) k
     unfolding sheetCell
     cell-on h er =
         rw (
           lt-ltb (k / sheetSize) (length (map flowOf (held row))) (omega (arith, size-is row n en)),
-          lt-ltb (k % sheetSize / blockSize) (length (flowAt (netWith row lmin lmax) (k / sheetSize) .path)) (omega (arith, long)),
+          lt-ltb (k % sheetSize / blockSize) (length (flowAt (netOf lmin lmax row) (k / sheetSize) .path)) (omega (arith, long)),
         ) er
 
 -- a place of a path, as the code has it

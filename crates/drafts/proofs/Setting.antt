@@ -10,13 +10,14 @@ use Rattle.rules.specs.Valid.{Valid}
 use Rattle.rules.specs.Judge.{busyLength}
 use Rattle.flows.specs.declared.Flow.{Flow}
 use Rattle.flows.specs.declared.Row.{Row}
-use Rattle.flows.specs.Lists.{mostFlows, mostNodes, noFlow, pathOf, flowOf, held}
-use Rattle.sums.specs.Whole.{netWith}
+use Rattle.flows.specs.Lists.{mostFlows, mostNodes, noFlow, pathOf, flowOf, held, netOf}
 use Rattle.starts.specs.Sheet.{values}
 use Rattle.sheets.specs.Fields.{flowAt}
 use Rattle.sheets.specs.Setup.{Setup}
 use Rattle.drafts.specs.Cells.{CellsAre}
 use Rattle.drafts.specs.Reading.{readAt}
+use Rattle.drafts.specs.declared.Draft.{Draft}
+use Rattle.drafts.specs.Whole.{EachOf, DraftOf}
 use Rattle.drafts.proofs.Making.{flow-is, size-is}
 use Rattle.drafts.proofs.Tables.{Tabulated, table-start, table-more}
 use Rattle.drafts.proofs.Holding.{draft-is}
@@ -24,7 +25,7 @@ use Rattle.drafts.proofs.Reading.{not-read}
 
 module _ (row : Row) (lmin lmax : ℕ) where
   abbrev N : Net
-  N = netWith row lmin lmax
+  N = netOf lmin lmax row
 
   -- what is told of each of the first k flows
   pub record Flows (lengths busies priorities : List ℕ) (k : ℕ) : Type 0 where
@@ -37,7 +38,7 @@ module _ (row : Row) (lmin lmax : ℕ) where
 
   pub flows-more : (lengths busies priorities : List ℕ) (k : ℕ) → Flows lengths busies priorities k → k < mostFlows →
       (i : Flow) → i ≡ getD (held row) k noFlow → (m b : ℕ) → m ≡ length (pathOf i) → m ≤ mostNodes →
-      ((lmin lmax : ℕ) → b ≡ busyLength (netWith row lmin lmax) (flowOf i)) → b ≤ 65536 → i .priority < 256 →
+      ((lmin lmax : ℕ) → b ≡ busyLength (netOf lmin lmax row) (flowOf i)) → b ≤ 65536 → i .priority < 256 →
       Flows (set lengths k m) (set busies k b) (set priorities k (i .priority)) (k + 1)
   flows-more lengths busies priorities k t h i e m b em lm eb lb lp =
       let f : flowOf i ≡ flowAt N k = flow-is row k i e in
@@ -62,3 +63,17 @@ module _ (row : Row) (lmin lmax : ℕ) where
         busy = λ a h. told .busy .done a (omega arith);
         unread = λ a b h g e. not-read N val a b (omega arith) (omega arith) (omega arith) (sym (read (b * mostFlows + a) (omega arith)) ∙ e);
       }
+
+  each-of : (v : ℕ → ℕ) (size most : ℕ) (l : List ℕ) (n k : ℕ) → Tabulated v size most l k → n ≡ k → EachOf v n l
+  each-of v size most l n k t e = record { flows = λ a h. t .done a (omega arith); rest = λ a h. t .rest a (omega arith) }
+
+  pub draft-made : (d : Draft) (k : ℕ) → d .n ≡ length (held row) → d .n ≡ k → CellsAre N (d .nums) (d .from) (d .also) →
+      Flows (d .lengths) (d .busies) (d .priorities) k → ((j : ℕ) → j < 256 → values (d .reads) j ≡ readAt (map flowOf (held row)) j) → DraftOf N d
+  draft-made d k en ek cells told read = record {
+    count = size-is row (d .n) en;
+    cells = cells;
+    lengths = each-of _ _ _ (d .lengths) (d .n) k (told .long) ek;
+    busies = each-of _ _ _ (d .busies) (d .n) k (told .busy) ek;
+    priorities = each-of _ _ _ (d .priorities) (d .n) k (told .priority) ek;
+    reads = read;
+  }

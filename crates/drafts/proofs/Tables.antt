@@ -15,16 +15,18 @@ use Rattle.drafts.specs.declared.Cell.{Cell}
 use Rattle.drafts.specs.Cells.{draftSize, cellAt, CellsAre}
 
 module _ (v : ℕ → ℕ) (size most : ℕ) where
-  -- the first k values, none above the most
+  -- the first k values, none above the most, and zeros behind
   pub record Tabulated (l : List ℕ) (k : ℕ) : Type 0 where
     pub long : length l ≡ size
     pub done : (j : ℕ) → j < k → values l j ≡ v j
+    pub rest : (j : ℕ) → k ≤ j → values l j ≡ 0
     pub low : (j : ℕ) → values l j ≤ most
 
   pub table-start : Tabulated (replicate size 0) 0
   table-start = record {
     long = length-replicate {A = ℕ} size 0;
     done = λ k h. absurd (omega arith);
+    rest = λ j h. zeros size j;
     low = λ k. omega (arith, zeros size k);
   }
 
@@ -33,6 +35,7 @@ module _ (v : ℕ → ℕ) (size most : ℕ) where
     long = simp length-set (t .long);
     done = below-more (λ j. values (set l k x) j ≡ v j) k (λ j r. getD-set-other l k j x 0 (λ z. omega arith) ∙ t .done j r)
         (getD-set-same l k x 0 (omega (arith, t .long)) ∙ e);
+    rest = λ j r. getD-set-other l k j x 0 (λ z. omega arith) ∙ t .rest j (omega arith);
     low = set-cases (λ j y. y ≤ most) l k x (omega (arith, t .long)) m (λ j r. t .low j);
   }
 

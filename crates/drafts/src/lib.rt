@@ -13,13 +13,13 @@ ghost use Prim.Native.Nat.{ℕ, _+_, _≤_, _<_};
 ghost use lib.ListN.{length};
 ghost use Rattle.least.specs.Fold.{anyOf};
 ghost use Rattle.rules.specs.Valid.{Valid};
-ghost use Rattle.flows.specs.Lists.{mostFlows, mostNodes, flowOf, held};
-ghost use Rattle.sums.specs.Whole.{netWith};
+ghost use Rattle.flows.specs.Lists.{mostFlows, mostNodes, flowOf, held, netOf};
 ghost use Rattle.starts.specs.Sheet.{values};
 ghost use Rattle.sheets.specs.Fields.{HalfSmall};
 ghost use Rattle.sheets.specs.Setup.{Setup};
 ghost use Rattle.drafts.specs.Cells.{alone, entryCell, blockCell, cellAt, CellsAre, IsFlow, IsPlace};
 ghost use Rattle.drafts.specs.Reading.{readsOf, readsOwn, reads, readAt};
+ghost use Rattle.drafts.specs.Whole.{DraftOf};
 
 // A place for each two flows.
 pub const PAIRS: usize = 256;
@@ -45,7 +45,7 @@ fn number_alone(number: u64) -> Cell
 // Field c of flow b's entry, at place p of flow a's path.
 fn entry_cell(row: Row, lmin: u16, lmax: u16, a: usize, p: usize, b: usize, c: usize) -> Cell
     requires { ⌜ IsPlace row a p × IsFlow row b ⌝ }
-    ensures { λ r. ⌜ r ≡ entryCell (netWith row lmin lmax) a p b c ⌝ }
+    ensures { λ r. ⌜ r ≡ entryCell (netOf lmin lmax row) a p b c ⌝ }
     ensures { λ r. ⌜ r .number < 8388608 ⌝ }
 {
     let i = sums::flow_at(row, a);
@@ -75,7 +75,7 @@ fn entry_cell(row: Row, lmin: u16, lmax: u16, a: usize, p: usize, b: usize, c: u
 // Number f of the block at place p of flow a's path.
 fn block_cell(row: Row, lmin: u16, lmax: u16, a: usize, p: usize, f: usize) -> Cell
     requires { ⌜ IsPlace row a p ⌝ }
-    ensures { λ r. ⌜ r ≡ blockCell (netWith row lmin lmax) a p f ⌝ }
+    ensures { λ r. ⌜ r ≡ blockCell (netOf lmin lmax row) a p f ⌝ }
     ensures { λ r. ⌜ r .number < 8388608 ⌝ }
 {
     let i = sums::flow_at(row, a);
@@ -93,7 +93,7 @@ fn block_cell(row: Row, lmin: u16, lmax: u16, a: usize, p: usize, f: usize) -> C
 }
 
 fn cell_at(row: Row, lmin: u16, lmax: u16, k: usize) -> Cell
-    ensures { λ r. ⌜ r ≡ cellAt (netWith row lmin lmax) k ⌝ }
+    ensures { λ r. ⌜ r ≡ cellAt (netOf lmin lmax row) k ⌝ }
     ensures { λ r. ⌜ r .number < 8388608 ⌝ }
 {
     let a = k / SHEET;
@@ -114,7 +114,7 @@ struct Numbers {
 }
 
 fn tabulate(row: Row, lmin: u16, lmax: u16) -> Numbers
-    ensures { λ r. ⌜ CellsAre (netWith row lmin lmax) (r .nums) (r .from) (r .also) ⌝ }
+    ensures { λ r. ⌜ CellsAre (netOf lmin lmax row) (r .nums) (r .from) (r .also) ⌝ }
     ensures { λ r. ⌜ HalfSmall (r .nums) ⌝ }
 {
     let mut nums = [0u64; DRAFT];
@@ -222,8 +222,10 @@ pub struct Draft {
     pub n: usize,
 }
 
+// The second clause is what settling asks.
 pub fn prepare(row: Row, lmin: u16, lmax: u16) -> Draft
-    ensures { λ r. ⌜ (Valid (netWith row lmin lmax) → Setup (netWith row lmin lmax) (r .nums) (r .from) (r .also) (r .lengths) (r .busies) (r .reads) (r .n)) ⌝ }
+    ensures { λ r. ⌜ DraftOf (netOf lmin lmax row) r ⌝ }
+    ensures { λ r. ⌜ (Valid (netOf lmin lmax row) → Setup (netOf lmin lmax row) (r .nums) (r .from) (r .also) (r .lengths) (r .busies) (r .reads) (r .n)) ⌝ }
     ensures { λ r. ⌜ (r .n ≡ length (held row)) × (r .n ≤ mostFlows) ⌝ }
     ensures { λ r. ⌜ HalfSmall (r .nums) ⌝ }
     ensures { λ r. ⌜ ((a : ℕ) → values (r .lengths) a ≤ mostNodes) ⌝ }

@@ -37,7 +37,7 @@ pub fn no_figures() -> Figures
     }
 }
 
-pub fn refuse(cause: Cause) -> Verdict
+fn refuse(cause: Cause) -> Verdict
     ensures { λ r. ⌜ r ≡ refused cause ⌝ }
 {
     let none = no_figures();
@@ -96,8 +96,8 @@ fn figure(f: Flow, lmin: u16, bound: u64, busy: u64) -> Figures
     requires { ⌜ (bound ≤ mostTime) × (busy ≤ mostTime) ⌝ }
     ensures { λ r. ⌜ r ≡ figureOf f lmin bound busy ⌝ }
 {
-    let links = starts::less(flows::path_end(f) as u64, 1);
-    let jitter = starts::less(bound, costs(f) + links * lmin as u64);
+    let links = least::less(flows::path_end(f) as u64, 1);
+    let jitter = least::less(bound, costs(f) + links * lmin as u64);
     Figures {
         bound: bound as u16,
         jitter: jitter as u16,

@@ -12,13 +12,12 @@ use Rattle.rules.specs.Net.{Hop, Net}
 use Rattle.rules.specs.Formula.{Role, firstOn, lastOn, costAt, smin, M, slowest, term4, term5, term6}
 use Rattle.flows.specs.declared.Flow.{Flow}
 use Rattle.flows.specs.declared.Row.{Row}
-use Rattle.flows.specs.Lists.{mostNodes, pathOf, flowOf}
+use Rattle.flows.specs.Lists.{mostNodes, pathOf, flowOf, netOf}
 use Rattle.paths.specs.Paths.{positionOf, sminOf}
 use Rattle.paths.proofs.Places.{smin-is}
 use Rattle.pairs.specs.declared.Side.{Side}
 use Rattle.pairs.specs.declared.Side.the-variants.{Own, Higher, Equal, Lower}
 use Rattle.pairs.specs.Pairs.{sideRole}
-use Rattle.sums.specs.Whole.{netWith}
 use Rattle.starts.specs.Sheet.{hereSlot, instantSlot}
 use Rattle.sheets.specs.Fields.{nodeAt, upTo, noPlace, source, lookOf, plusOf, lessOf, weightOf, fromOf, alsoOf, baseOf, addedOf}
 
@@ -74,50 +73,50 @@ module _ (i j : Flow) (P : List Hop) (h : ℕ) (s : Side) where
   abbrev fixed : ℕ → ℕ → List Hop → ℕ
   fixed lmax n l = pick (eqb (positionOf n l) 0) 0 lmax
 
-  pub plus-own : s ≡ Own → (lmax : ℕ) (row : Row) (lmin : ℕ) → 0 ≡ plusOf (netWith row lmin lmax) (flowOf i) (flowOf j) P h (sideRole s)
+  pub plus-own : s ≡ Own → (lmax : ℕ) (row : Row) (lmin : ℕ) → 0 ≡ plusOf (netOf lmin lmax row) (flowOf i) (flowOf j) P h (sideRole s)
   unfolding plusOf
-  plus-own q lmax row lmin = told (plusOf (netWith row lmin lmax) (flowOf i) (flowOf j) P h) s Own q 0 refl
+  plus-own q lmax row lmin = told (plusOf (netOf lmin lmax row) (flowOf i) (flowOf j) P h) s Own q 0 refl
 
-  pub plus-lower : s ≡ Lower → (lmax : ℕ) (row : Row) (lmin : ℕ) → 0 ≡ plusOf (netWith row lmin lmax) (flowOf i) (flowOf j) P h (sideRole s)
+  pub plus-lower : s ≡ Lower → (lmax : ℕ) (row : Row) (lmin : ℕ) → 0 ≡ plusOf (netOf lmin lmax row) (flowOf i) (flowOf j) P h (sideRole s)
   unfolding plusOf
-  plus-lower q lmax row lmin = told (plusOf (netWith row lmin lmax) (flowOf i) (flowOf j) P h) s Lower q 0 refl
+  plus-lower q lmax row lmin = told (plusOf (netOf lmin lmax row) (flowOf i) (flowOf j) P h) s Lower q 0 refl
 
   module _ (lmax x : ℕ) (e : x ≡ j .jitter + fixed lmax (firstOn P (pathOf j)) (pathOf j)) where
-    pub plus-higher : s ≡ Higher → (row : Row) (lmin : ℕ) → x ≡ plusOf (netWith row lmin lmax) (flowOf i) (flowOf j) P h (sideRole s)
+    pub plus-higher : s ≡ Higher → (row : Row) (lmin : ℕ) → x ≡ plusOf (netOf lmin lmax row) (flowOf i) (flowOf j) P h (sideRole s)
     unfolding plusOf
-    plus-higher q row lmin = told (plusOf (netWith row lmin lmax) (flowOf i) (flowOf j) P h) s Higher q x e
+    plus-higher q row lmin = told (plusOf (netOf lmin lmax row) (flowOf i) (flowOf j) P h) s Higher q x e
 
     pub plus-equal : s ≡ Equal → (g y : ℕ) → g ≡ firstOn (pathOf j) P → y ≡ fixed lmax g (pathOf i) → (row : Row) (lmin : ℕ) →
-        x + y ≡ plusOf (netWith row lmin lmax) (flowOf i) (flowOf j) P h (sideRole s)
+        x + y ≡ plusOf (netOf lmin lmax row) (flowOf i) (flowOf j) P h (sideRole s)
     unfolding plusOf
     plus-equal q g y z w row lmin =
-        told (plusOf (netWith row lmin lmax) (flowOf i) (flowOf j) P h) s Equal q (x + y) (ap₂ (λ u v. u + v) e (w ∙ ap (λ g. fixed lmax g (pathOf i)) z))
+        told (plusOf (netOf lmin lmax row) (flowOf i) (flowOf j) P h) s Equal q (x + y) (ap₂ (λ u v. u + v) e (w ∙ ap (λ g. fixed lmax g (pathOf i)) z))
 
   -- what is taken off, with Smin at n
   abbrev off : Net → ℕ → ℕ
   off N n = smin N (flowOf j) n + M N (flowOf i) (firstOn P (pathOf j))
 
   module _ (row : Row) (lmin : ℕ) where
-    pub less-own : s ≡ Own → (lmax : ℕ) → i .period ≡ lessOf (netWith row lmin lmax) (flowOf i) (flowOf j) P h (sideRole s)
+    pub less-own : s ≡ Own → (lmax : ℕ) → i .period ≡ lessOf (netOf lmin lmax row) (flowOf i) (flowOf j) P h (sideRole s)
     unfolding lessOf
-    less-own q lmax = told (lessOf (netWith row lmin lmax) (flowOf i) (flowOf j) P h) s Own q (i .period) refl
+    less-own q lmax = told (lessOf (netOf lmin lmax row) (flowOf i) (flowOf j) P h) s Own q (i .period) refl
 
-    pub less-lower : s ≡ Lower → (lmax : ℕ) → 0 ≡ lessOf (netWith row lmin lmax) (flowOf i) (flowOf j) P h (sideRole s)
+    pub less-lower : s ≡ Lower → (lmax : ℕ) → 0 ≡ lessOf (netOf lmin lmax row) (flowOf i) (flowOf j) P h (sideRole s)
     unfolding lessOf
-    less-lower q lmax = told (lessOf (netWith row lmin lmax) (flowOf i) (flowOf j) P h) s Lower q 0 refl
+    less-lower q lmax = told (lessOf (netOf lmin lmax row) (flowOf i) (flowOf j) P h) s Lower q 0 refl
 
-    module _ (n x : ℕ) (e : (lmax : ℕ) → x ≡ off (netWith row lmin lmax) n) where
-      pub less-higher : s ≡ Higher → n ≡ lastOn h P (pathOf j) → (lmax : ℕ) → x ≡ lessOf (netWith row lmin lmax) (flowOf i) (flowOf j) P h (sideRole s)
+    module _ (n x : ℕ) (e : (lmax : ℕ) → x ≡ off (netOf lmin lmax row) n) where
+      pub less-higher : s ≡ Higher → n ≡ lastOn h P (pathOf j) → (lmax : ℕ) → x ≡ lessOf (netOf lmin lmax row) (flowOf i) (flowOf j) P h (sideRole s)
       unfolding lessOf
       less-higher q z lmax =
-          told (lessOf (netWith row lmin lmax) (flowOf i) (flowOf j) P h) s Higher q x (e lmax ∙ ap (off (netWith row lmin lmax)) z)
+          told (lessOf (netOf lmin lmax row) (flowOf i) (flowOf j) P h) s Higher q x (e lmax ∙ ap (off (netOf lmin lmax row)) z)
 
       pub less-equal : s ≡ Equal → n ≡ firstOn (pathOf j) P → (lmax : ℕ) →
-          i .jitter + x ≡ lessOf (netWith row lmin lmax) (flowOf i) (flowOf j) P h (sideRole s)
+          i .jitter + x ≡ lessOf (netOf lmin lmax row) (flowOf i) (flowOf j) P h (sideRole s)
       unfolding lessOf
       less-equal q z lmax =
-          told (lessOf (netWith row lmin lmax) (flowOf i) (flowOf j) P h) s Equal q (i .jitter + x)
-          (omega (arith, e lmax, ap (off (netWith row lmin lmax)) z))
+          told (lessOf (netOf lmin lmax row) (flowOf i) (flowOf j) P h) s Equal q (i .jitter + x)
+          (omega (arith, e lmax, ap (off (netOf lmin lmax row)) z))
 
 module _ (i j : Flow) (P : List Hop) (s : Side) where
   pub weight-own : s ≡ Own → (x : ℕ) → x ≡ slowest P (pathOf i) → (N : Net) (h : ℕ) → x ≡ weightOf N (flowOf i) (flowOf j) P h (sideRole s)
@@ -177,10 +176,10 @@ pub arrival-made : (lmax f x : ℕ) (j : Flow) (P : List Hop) → f ≡ firstOn 
 arrival-made lmax f x j P e z = ap (λ y. j .jitter + y) (z ∙ ap (λ f. pick (eqb (positionOf f (pathOf j)) 0) 0 lmax) e)
 
 pub passage-made : (row : Row) (lmin : ℕ) (i j : Flow) (P : List Hop) (n x f y : ℕ) → x ≡ sminOf lmin (pathOf j) n → f ≡ firstOn P (pathOf j) →
-    ((lmax : ℕ) → y ≡ M (netWith row lmin lmax) (flowOf i) f) → (lmax : ℕ) →
-    x + y ≡ smin (netWith row lmin lmax) (flowOf j) n + M (netWith row lmin lmax) (flowOf i) (firstOn P (pathOf j))
+    ((lmax : ℕ) → y ≡ M (netOf lmin lmax row) (flowOf i) f) → (lmax : ℕ) →
+    x + y ≡ smin (netOf lmin lmax row) (flowOf j) n + M (netOf lmin lmax row) (flowOf i) (firstOn P (pathOf j))
 passage-made row lmin i j P n x f y e z w lmax =
-    ap₂ (λ u v. u + v) (e ∙ sym (smin-is (netWith row lmin lmax) (flowOf j) n)) (w lmax ∙ ap (M (netWith row lmin lmax) (flowOf i)) z)
+    ap₂ (λ u v. u + v) (e ∙ sym (smin-is (netOf lmin lmax row) (flowOf j) n)) (w lmax ∙ ap (M (netOf lmin lmax row) (flowOf i)) z)
 
 pub added-made : (i : Flow) (h x : ℕ) → x ≡ costAt (pathOf i) h → x + i .jitter ≡ addedOf (flowOf i) h
 unfolding addedOf
@@ -189,10 +188,10 @@ added-made i h x e = ap (λ y. y + i .jitter) e
 -- terms 4, 5 and 6 and the first packet, less C, each as the code has it
 pub base-made : (row : Row) (lmax : ℕ) (i : Flow) (p : ℕ) → p < length (pathOf i) → (node cost : ℕ) → node ≡ nodeAt (flowOf i) p →
     cost ≡ costAt (pathOf i) node → (P : List Hop) → P ≡ take (p + 1) (pathOf i) → (own four five six sum : ℕ) → own ≡ slowest P (pathOf i) →
-    ((lmin lmax : ℕ) → four ≡ term4 (netWith row lmin lmax) (flowOf i) (take (p + 1) (pathOf i))) →
-    ((lmin lmax : ℕ) → five ≡ term5 (netWith row lmin lmax) (flowOf i) (take (p + 1) (pathOf i))) → six ≡ p * lmax →
+    ((lmin lmax : ℕ) → four ≡ term4 (netOf lmin lmax row) (flowOf i) (take (p + 1) (pathOf i))) →
+    ((lmin lmax : ℕ) → five ≡ term5 (netOf lmin lmax row) (flowOf i) (take (p + 1) (pathOf i))) → six ≡ p * lmax →
     sum ≡ max (four + five + six + own) cost →
-    (lmin : ℕ) → sum - cost ≡ baseOf (netWith row lmin lmax) (flowOf i) (upTo (flowOf i) p) (nodeAt (flowOf i) p)
+    (lmin : ℕ) → sum - cost ≡ baseOf (netOf lmin lmax row) (flowOf i) (upTo (flowOf i) p) (nodeAt (flowOf i) p)
 unfolding baseOf term6
 base-made row lmax i p on node cost en ec P eP own four five six sum eo e4 e5 e6 es lmin =
     let m : length (take (p + 1) (pathOf i)) - 1 ≡ p = omega (arith, length-take (p + 1) (pathOf i)) in

@@ -12,10 +12,9 @@ ghost use lib.ListN.{length};
 ghost use Rattle.least.specs.Count.{pick};
 ghost use Rattle.rules.specs.Net.{Net};
 ghost use Rattle.rules.specs.Formula.{firstOn, M, smin};
-ghost use Rattle.flows.specs.Lists.{mostFlows, mostNodes, pathOf, flowOf};
+ghost use Rattle.flows.specs.Lists.{mostFlows, mostNodes, pathOf, flowOf, netOf};
 ghost use Rattle.paths.specs.Paths.{positionOf};
 ghost use Rattle.pairs.specs.Pairs.{sideRole};
-ghost use Rattle.sums.specs.Whole.{netWith};
 ghost use Rattle.starts.specs.Sheet.{hereSlot};
 ghost use Rattle.sheets.specs.Fields.{nodeAt, upTo, source, lookOf, plusOf, lessOf, weightOf, fromOf, alsoOf, baseOf, addedOf};
 
@@ -76,7 +75,7 @@ fn arrival(lmax: u16, j: Flow, prefix: Flow) -> u64
 }
 
 pub fn plus(side: Side, lmax: u16, i: Flow, j: Flow, prefix: Flow, h: u8) -> u64
-    ensures { λ r. ⌜ ((row : Row) (lmin : ℕ) → r ≡ plusOf (netWith row lmin lmax) (flowOf i) (flowOf j) (pathOf prefix) h (sideRole side)) ⌝ }
+    ensures { λ r. ⌜ ((row : Row) (lmin : ℕ) → r ≡ plusOf (netOf lmin lmax row) (flowOf i) (flowOf j) (pathOf prefix) h (sideRole side)) ⌝ }
     ensures { λ r. ⌜ r ≤ 3 * 65535 ⌝ }
 {
     match side {
@@ -89,14 +88,14 @@ pub fn plus(side: Side, lmax: u16, i: Flow, j: Flow, prefix: Flow, h: u8) -> u64
 
 // Smin of j at a node, and M of i at the first node of the prefix on j's path.
 fn passage(row: Row, lmin: u16, i: Flow, j: Flow, prefix: Flow, node: u8) -> u64
-    ensures { λ r. ⌜ ((lmax : ℕ) → r ≡ smin (netWith row lmin lmax) (flowOf j) node + M (netWith row lmin lmax) (flowOf i) (firstOn (pathOf prefix) (pathOf j))) ⌝ }
+    ensures { λ r. ⌜ ((lmax : ℕ) → r ≡ smin (netOf lmin lmax row) (flowOf j) node + M (netOf lmin lmax row) (flowOf i) (firstOn (pathOf prefix) (pathOf j))) ⌝ }
     ensures { λ r. ⌜ r ≤ 16 * 131070 ⌝ }
 {
     paths::smallest_time(lmin, j, node) + sums::least_way(row, lmin, i, pairs::first_on(prefix, j))
 }
 
 pub fn less(side: Side, row: Row, lmin: u16, i: Flow, j: Flow, prefix: Flow, h: u8) -> u64
-    ensures { λ r. ⌜ ((lmax : ℕ) → r ≡ lessOf (netWith row lmin lmax) (flowOf i) (flowOf j) (pathOf prefix) h (sideRole side)) ⌝ }
+    ensures { λ r. ⌜ ((lmax : ℕ) → r ≡ lessOf (netOf lmin lmax row) (flowOf i) (flowOf j) (pathOf prefix) h (sideRole side)) ⌝ }
     ensures { λ r. ⌜ r ≤ 65535 + 16 * 131070 ⌝ }
 {
     match side {
@@ -156,13 +155,13 @@ fn links(lmax: u16, p: usize) -> u64
 // What hangs on nothing, at place p of i's path.
 pub fn base(row: Row, lmax: u16, i: Flow, p: usize) -> u64
     requires { ⌜ (p < length (pathOf i)) × (p < mostNodes) ⌝ }
-    ensures { λ r. ⌜ ((lmin : ℕ) → r ≡ baseOf (netWith row lmin lmax) (flowOf i) (upTo (flowOf i) p) (nodeAt (flowOf i) p)) ⌝ }
+    ensures { λ r. ⌜ ((lmin : ℕ) → r ≡ baseOf (netOf lmin lmax row) (flowOf i) (upTo (flowOf i) p) (nodeAt (flowOf i) p)) ⌝ }
     ensures { λ r. ⌜ r ≤ 16 * 65535 + 7 * 65535 + 65535 ⌝ }
 {
     let cost = paths::cost_at(i, paths::node_at(i, p));
     let own = pairs::slowest_cost(paths::prefix_of(i, p + 1), i);
     let sum = sums::term4(row, i, p + 1) + sums::term5(row, i, p + 1) + links(lmax, p) + own;
-    paths::greater(sum, cost) - cost
+    least::greater(sum, cost) - cost
 }
 
 pub fn added(i: Flow, h: u8) -> u64

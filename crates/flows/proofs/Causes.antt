@@ -1,9 +1,10 @@
 -- A law for each way out of the tests.
 use Prim.Native.Nat.{ℕ, _<_, _≤_}
-use mathlib.Core.Path.{_≡_, refl}
-use mathlib.Core.Bool.{Bool, true, false, not, false≢true}
-use lib.Dec.{leb, eqb}
-use borrow.Author.Tests.{eq-eqb, ne-eqb, lt-ltb, le-ltb, le-leb, lt-leb, not-true, not-false}
+use mathlib.Core.Path.{_≡_, refl, ap}
+use mathlib.Core.Bool.{Bool, true, false, cond, not, _||_, false≢true}
+use native.Mathlib.Omega.{arith}
+use lib.Dec.{leb, ltb, eqb}
+use borrow.Author.Tests.{eq-eqb, ne-eqb, lt-ltb, le-ltb, le-leb, lt-leb, not-true, not-false, ltb-false}
 use Rattle.flows.specs.declared.Flow.{Flow}
 use Rattle.flows.specs.declared.Cause.{Cause}
 use Rattle.flows.specs.declared.Cause.the-variants.{Accepted, Delays, NumberZero, OutOfRange, NodeTwice, Present, Full, Crossing, NoBusyLength, Unsettled, PastDeadline, Absent, Malformed, ShortBuffer}
@@ -114,3 +115,13 @@ accepted-only (PastDeadline flow) e = absurd (false≢true e)
 accepted-only Absent e = absurd (false≢true e)
 accepted-only Malformed e = absurd (false≢true e)
 accepted-only ShortBuffer e = absurd (false≢true e)
+
+-- link delays that passed refusal 1
+pub delays-small : (lmin lmax : ℕ) → delayCause lmin lmax ≡ Accepted → (lmin ≤ lmax) × (lmax ≤ mostDelay)
+unfolding delayCause
+delays-small lmin lmax e = go (ltb lmax lmin) (ltb mostDelay lmax) refl refl (ap numberOf e)
+  where
+    go : (p q : Bool) → ltb lmax lmin ≡ p → ltb mostDelay lmax ≡ q → numberOf (cond (p || q) Delays Accepted) ≡ 0 → (lmin ≤ lmax) × (lmax ≤ mostDelay)
+    go true q i j z = absurd (omega arith)
+    go false true i j z = absurd (omega arith)
+    go false false i j z = (ltb-false lmax lmin i, ltb-false mostDelay lmax j)

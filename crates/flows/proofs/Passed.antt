@@ -139,7 +139,7 @@ well-formed f t e =
       nodes = are-distinct (pathOf f) (rw (nodes-of-hops (f .length) (f .nodes) (f .costs) (t .nodes ∙ sym (t .costs))) (p .differ));
     }
 
-each-member : {A : Type 0} (P : A → Type 0) (l : List A) {x : A} → Each P l → List·Memᴰ x l → P x
+pub each-member : {A : Type 0} (P : A → Type 0) (l : List A) {x : A} → Each P l → List·Memᴰ x l → P x
 each-member P [] e m = absurd (List·Memᴰ·not-nil m)
 each-member P (y ∷ l) {x} (each-more p e) m =
     ⊎-elim (λ (q : x ≡ y). rw q p) (λ (i : List·Memᴰ x l). each-member P l e i) (List·Memᴰ·cases-cons m)

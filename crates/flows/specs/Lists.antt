@@ -53,8 +53,11 @@ held row = take (row .count) (row .flows)
 unfoldable pub rowOf : List Flow → Row
 rowOf fs = record { flows = fs ++ replicate (mostFlows - length fs) noFlow; count = length fs }
 
+abbrev pub netFrom : ℕ → ℕ → List Flow → net.Net
+netFrom lmin lmax fs = record { lmin = lmin; lmax = lmax; flows = map flowOf fs }
+
 abbrev pub netOf : ℕ → ℕ → Row → net.Net
-netOf lmin lmax row = record { lmin = lmin; lmax = lmax; flows = map flowOf (held row) }
+netOf lmin lmax row = netFrom lmin lmax (held row)
 
 abbrev pub tableNet : Table → net.Net
 tableNet t = netOf (t .lmin) (t .lmax) (t .row)

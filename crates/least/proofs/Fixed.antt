@@ -35,14 +35,22 @@ under-ext {f} {g} {x} h u = record { up = omega (arith, h x, u .up); low = λ v 
 pub under-done : {f : ℕ → ℕ} {x : ℕ} → Under f x → f x ≤ x → Least f x
 under-done {f} {x} u h = record { fixed = omega arith; lowest = u .low }
 
-climb-stop : (f : ℕ → ℕ) (k x : ℕ) → f x ≤ x → climb f k x ≡ x
+pub climb-stop : (f : ℕ → ℕ) (k x : ℕ) → f x ≤ x → climb f k x ≡ x
 unfolding climb
 climb-stop f zero x h = refl
 climb-stop f (suc k) x h = rw (le-leb (f x) x h, climb)
 
-climb-go : (f : ℕ → ℕ) (k x : ℕ) → x < f x → climb f (suc k) x ≡ climb f k (f x)
+pub climb-go : (f : ℕ → ℕ) (k x : ℕ) → x < f x → climb f (suc k) x ≡ climb f k (f x)
 unfolding climb
 climb-go f k x h = rw (lt-leb (f x) x h, climb)
+
+pub climb-same : (f g : ℕ → ℕ) → ((x : ℕ) → f x ≡ g x) → (k x : ℕ) → climb f k x ≡ climb g k x
+unfolding climb
+climb-same f g h zero x = refl
+climb-same f g h (suc k) x = elim (le-or-lt (f x) x) [
+  | inl q ↦ climb-stop f (suc k) x q ∙ sym (climb-stop g (suc k) x (rw (h x) at q))
+  | inr q ↦ climb-go f k x q ∙ climb-same f g h k (f x) ∙ ap (climb g k) (h x) ∙ sym (climb-go g k x (rw (h x) at q))
+]
 
 climb-under : (f : ℕ → ℕ) → Rising f → (k x : ℕ) → Under f x → Under f (climb f k x)
 unfolding climb

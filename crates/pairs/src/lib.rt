@@ -40,7 +40,7 @@ pub fn slowest_cost(p: Flow, f: Flow) -> u64
     let mut most: u64 = 0;
     let mut k: usize = 0;
     while k < n {
-        most = paths::greater(most, cost_shared(p, f, k));
+        most = least::greater(most, cost_shared(p, f, k));
         k += 1;
     }
     most

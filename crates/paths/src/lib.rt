@@ -1,7 +1,7 @@
 // A flow's path as the formula reads it: its nodes and costs by place and by node, and its prefixes.
 use flows::Flow;
 ghost use mathlib.Core.Path.{_≡_};
-ghost use Prim.Native.Nat.{_+_, _*_, _≤_, _<_, max, min};
+ghost use Prim.Native.Nat.{_+_, _*_, _≤_, _<_};
 ghost use lib.Dec.{eqb};
 ghost use lib.ListN.{length, take};
 ghost use Rattle.least.specs.Count.{pick};
@@ -35,18 +35,6 @@ pub fn prefix_of(f: Flow, upto: usize) -> Flow
     let mut p = f;
     p.length = upto as u8;
     p
-}
-
-pub fn greater(a: u64, b: u64) -> u64
-    ensures { λ r. ⌜ r ≡ max a b ⌝ }
-{
-    if a < b { b } else { a }
-}
-
-pub fn lesser(a: u64, b: u64) -> u64
-    ensures { λ r. ⌜ r ≡ min a b ⌝ }
-{
-    if a < b { a } else { b }
 }
 
 pub fn passes(f: Flow, node: u8) -> bool
@@ -98,7 +86,7 @@ pub fn cost_at(f: Flow, node: u8) -> u64
     let mut most: u64 = 0;
     let mut k: usize = 0;
     while k < n {
-        most = greater(most, cost_there(f, k, node));
+        most = least::greater(most, cost_there(f, k, node));
         k += 1;
     }
     most

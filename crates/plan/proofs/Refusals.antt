@@ -14,9 +14,10 @@ use Rattle.flows.specs.Lists.{mostFlows, rowOf}
 use Rattle.flows.specs.Tests.{delayCause}
 use Rattle.records.specs.Kinds.{linksRecord, flowRecord}
 use Rattle.plan.specs.declared.Reading.{Reading}
-use Rattle.plan.specs.Reading.{kindAt, flowAt, linksAt, refused, listed, unless, recordCause, readFlows, readPlan}
+use Rattle.reader.specs.Places.{kindAt}
+use Rattle.plan.specs.Reading.{flowAt, linksAt, refused, listed, unless, recordCause, readFlows, readPlan}
 use Rattle.plan.specs.Writing.{planLength}
-use Rattle.plan.proofs.Places.{found}
+use Rattle.reader.proofs.Places.{found}
 use Rattle.plan.proofs.Steps.{nextAfter, flows-at-none, flows-at-links, flows-at-end, flows-at-flow, plan-at-links, plan-at-flow, plan-at-end, plan-at-none}
 
 abbrev Inside : List ℕ → ℕ → Reading → Type 0

@@ -18,13 +18,14 @@ use Rattle.row.specs.Rows.{appended, lastNumber}
 use Rattle.records.specs.declared.Links.{Links}
 use Rattle.records.specs.Kinds.{linksRecord, flowBody, flowRecord}
 use Rattle.records.specs.Bodies.{flowRead}
-use Rattle.plan.specs.declared.Kind.{Kind}
-use Rattle.plan.specs.declared.Kind.the-variants.{OfLinks, OfFlow, OfEnd, OfNone}
+use Rattle.reader.specs.declared.Kind.{Kind}
+use Rattle.reader.specs.declared.Kind.the-variants.{OfLinks, OfFlow, OfEnd, OfNone}
 use Rattle.plan.specs.declared.Reading.{Reading}
-use Rattle.plan.specs.Reading.{kindAt, flowAt, linksAt, refused, listed, unless, fallsTo, recordCause, atEnd, readEnd, ifFlow, readFlows, readAfterLinks, ifLinks, readPlan}
+use Rattle.reader.specs.Places.{kindAt}
+use Rattle.plan.specs.Reading.{flowAt, linksAt, refused, listed, unless, fallsTo, recordCause, atEnd, readEnd, ifFlow, readFlows, readAfterLinks, ifLinks, readPlan}
 use Rattle.row.proofs.Arrays.{held-rowOf, append-list, length-snoc}
-use Rattle.plan.proofs.Kind.{the-type}
-use Rattle.plan.proofs.Places.{at-none}
+use Rattle.reader.proofs.Kind.{the-type}
+use Rattle.reader.proofs.Places.{at-none}
 use types.Run.{OneOf, hit, miss}
 use denote.Enum.Declared.{tagOf}
 

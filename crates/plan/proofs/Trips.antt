@@ -21,19 +21,20 @@ use Rattle.row.specs.Rows.{lastNumber, Rising, rising-none, rising-more}
 use Rattle.records.specs.declared.Links.{Links}
 use Rattle.records.specs.Kinds.{linksKind, linksBody, linksRecord, flowKind, flowBody, flowRecord, endKind}
 use Rattle.records.specs.Bodies.{flowRead, linksWritten, flowWritten}
-use Rattle.plan.specs.declared.Kind.{Kind}
-use Rattle.plan.specs.declared.Kind.the-variants.{OfLinks, OfFlow, OfEnd}
+use Rattle.reader.specs.declared.Kind.{Kind}
+use Rattle.reader.specs.declared.Kind.the-variants.{OfLinks, OfFlow, OfEnd}
 use Rattle.plan.specs.declared.Reading.{Reading}
-use Rattle.plan.specs.Reading.{kindAt, flowAt, linksAt, refused, listed, unless, fallsTo, recordCause, readFlows, readAfterLinks, ifLinks, readPlan}
+use Rattle.reader.specs.Places.{kindAt}
+use Rattle.plan.specs.Reading.{flowAt, linksAt, refused, listed, unless, fallsTo, recordCause, readFlows, readAfterLinks, ifLinks, readPlan}
 use Rattle.plan.specs.Writing.{linksBytes, flowBytes, flowsBytes, planBytes, planLength}
-use Rattle.plan.specs.Sets.{Readable}
-use Rattle.flows.proofs.Causes.{accepted-only}
+use Rattle.row.specs.Sets.{Readable}
+use Rattle.flows.proofs.Causes.{accepted-only, delays-small}
 use Rattle.flows.proofs.Passed.{well-formed}
 use Rattle.row.proofs.Valid.{row-valid}
 use Rattle.row.proofs.Arrays.{held-rowOf, length-snoc}
 use Rattle.records.proofs.Writing.{length-flow}
 use Rattle.records.proofs.RoundTrip.{Bytes, read-typed, flow-back, links-back, flow-again, links-again}
-use Rattle.plan.proofs.Places.{kind-end, kind-links, kind-flow, at-some, Whole, found}
+use Rattle.reader.proofs.Places.{kind-end, kind-links, kind-flow, at-some, Whole, found}
 use Rattle.plan.proofs.Steps.{nextAfter, flows-at-none, flows-at-links, flows-at-end, flows-at-flow, plan-at-links, plan-at-flow, plan-at-end, plan-at-none}
 
 -- ---- written, then read
@@ -106,15 +107,6 @@ read-flows (g ∷ gs) fs pre lmin lmax (rising-more i r) h (each-more e c) (each
     ap (λ (y : List ℕ). readFlows (mostFlows - length (fs ++ (g ∷ []))) lmin lmax (fs ++ (g ∷ [])) y (length pre + flowRecord)) q ∙
     ap (λ (y : ℕ). readFlows (mostFlows - length (fs ++ (g ∷ []))) lmin lmax (fs ++ (g ∷ [])) ((pre ++ flowBytes g) ++ post) y) p ∙
     ih ∙ ap (λ (y : List Flow). listed lmin lmax (rowOf y)) (append-snoc fs g gs)
-
-delays-small : (lmin lmax : ℕ) → delayCause lmin lmax ≡ Accepted → (lmin ≤ lmax) × (lmax ≤ mostDelay)
-unfolding delayCause
-delays-small lmin lmax e = go (ltb lmax lmin) (ltb mostDelay lmax) refl refl (ap numberOf e)
-  where
-    go : (p q : Bool) → ltb lmax lmin ≡ p → ltb mostDelay lmax ≡ q → numberOf (cond (p || q) Delays Accepted) ≡ 0 → (lmin ≤ lmax) × (lmax ≤ mostDelay)
-    go true q i j z = absurd (omega arith)
-    go false true i j z = absurd (omega arith)
-    go false false i j z = (ltb-false lmax lmin i, ltb-false mostDelay lmax j)
 
 -- a plan that was written
 module _ (lmin lmax : ℕ) (fs : List Flow) where

@@ -1,8 +1,8 @@
 -- Reading a plan: records judged in order, each by its kind.
-use Prim.Native.Nat.{ℕ, zero, suc, _+_, _-_}
+use Prim.Native.Nat.{ℕ, zero, suc, _+_}
 use mathlib.Core.Bool.{Bool, cond, not, _&&_}
 use mathlib.Core.List.{List, [], _∷_, _++_}
-use lib.ListN.{length, getD, take, drop}
+use lib.ListN.{length, take, drop}
 use lib.Dec.{leb, ltb, eqb}
 use Rattle.flows.specs.declared.Flow.{Flow}
 use Rattle.flows.specs.declared.Row.{Row}
@@ -13,22 +13,12 @@ use Rattle.flows.specs.Lists.{mostFlows, rowOf}
 use Rattle.flows.specs.Tests.{delayCause, flowCause}
 use Rattle.row.specs.Rows.{lastNumber}
 use Rattle.records.specs.declared.Links.{Links}
-use Rattle.records.specs.Kinds.{linksKind, linksBody, linksRecord, flowKind, flowBody, flowRecord, endKind}
+use Rattle.records.specs.Kinds.{linksBody, linksRecord, flowBody, flowRecord}
 use Rattle.records.specs.Bodies.{linksRead, flowRead}
-use Rattle.plan.specs.declared.Kind.{Kind}
-use Rattle.plan.specs.declared.Kind.the-variants.{OfLinks, OfFlow, OfEnd, OfNone}
+use Rattle.reader.specs.declared.Kind.{Kind}
+use Rattle.reader.specs.declared.Kind.the-variants.{OfLinks, OfFlow, OfEnd, OfNone}
+use Rattle.reader.specs.Places.{kindAt}
 use Rattle.plan.specs.declared.Reading.{Reading}
-
--- a kind byte with so many bytes after it; none for an unknown kind or a short body
-unfoldable pub kindOf : ℕ → ℕ → Kind
-kindOf kind left =
-    cond (eqb kind endKind) OfEnd
-    (cond (eqb kind linksKind) (cond (ltb left linksBody) OfNone OfLinks)
-    (cond (eqb kind flowKind) (cond (ltb left flowBody) OfNone OfFlow) OfNone))
-
--- the record at a place; none where no kind byte is left
-unfoldable pub kindAt : List ℕ → ℕ → Kind
-kindAt b at = cond (leb (length b) at) OfNone (kindOf (getD b at 0) (length b - (at + 1)))
 
 -- the body of the record at a place: the part of the plan after its kind byte
 abbrev pub bodyAt : List ℕ → ℕ → ℕ → List ℕ

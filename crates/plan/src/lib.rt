@@ -1,25 +1,18 @@
-// A plan read and written: its records, one after the other.
+// A plan read and written: its records, one after the other, as the plan reader sees them.
 use flows::Cause;
 use flows::FLOWS;
 use flows::Flow;
 use flows::Refusal;
 use flows::Row;
+use reader::Kind;
 ghost use mathlib.Core.Path.{_≡_};
 ghost use mathlib.Core.List.{_++_};
 ghost use Prim.Native.Nat.{_+_, _*_, _≤_};
 ghost use lib.ListN.{length, take, drop};
 ghost use Rattle.flows.specs.Lists.{held};
 ghost use Rattle.records.specs.Kinds.{linksRecord, flowRecord};
-ghost use Rattle.plan.specs.Reading.{kindOf, kindAt, flowAt, refused, recordCause, readEnd, readAfterLinks, readPlan, fallsTo};
+ghost use Rattle.plan.specs.Reading.{flowAt, refused, recordCause, readEnd, readAfterLinks, readPlan, fallsTo};
 ghost use Rattle.plan.specs.Writing.{linksBytes, flowBytes, flowsBytes, writtenInto, bufferAfter};
-
-// The whole record at a place of a plan; OfNone where no kind byte is left, the kind is unknown or the body short.
-pub enum Kind {
-    OfLinks,
-    OfFlow,
-    OfEnd,
-    OfNone,
-}
 
 // The set that a plan lists; or the refusal of a record and its place, with the empty set and both link delays 0.
 pub struct Reading {
@@ -34,38 +27,6 @@ pub struct Reading {
 pub enum Written {
     Length(usize),
     Refused(Refusal),
-}
-
-// Of a kind byte with left bytes after it.
-fn kind_of(kind: u8, left: usize) -> Kind
-    ensures { λ r. ⌜ r ≡ kindOf kind left ⌝ }
-{
-    if kind == records::END_KIND {
-        return Kind::OfEnd;
-    }
-    if kind == records::LINKS_KIND {
-        if left < records::LINKS_BODY {
-            return Kind::OfNone;
-        }
-        return Kind::OfLinks;
-    }
-    if kind == records::FLOW_KIND {
-        if left < records::FLOW_BODY {
-            return Kind::OfNone;
-        }
-        return Kind::OfFlow;
-    }
-    Kind::OfNone
-}
-
-pub fn kind_at(plan: &[u8], at: usize) -> Kind
-    ensures { λ r. ⌜ r ≡ kindAt (now (plan .entry)) at ⌝ }
-{
-    let n = plan.len();
-    if n <= at {
-        return Kind::OfNone;
-    }
-    kind_of(plan[at], n - (at + 1))
 }
 
 fn refuse(cause: Cause, place: usize) -> Reading
@@ -122,7 +83,7 @@ fn flow_at(plan: &[u8], at: usize) -> Flow
 fn read_end(plan: &[u8], at: usize, lmin: u16, lmax: u16, row: Row) -> Reading
     ensures { λ r. ⌜ r ≡ readEnd lmin lmax row (now (plan .entry)) at ⌝ }
 {
-    let Kind::OfEnd = kind_at(plan, at) else {
+    let Kind::OfEnd = reader::seen(plan, at) else {
         return refuse(Cause::Malformed, at);
     };
     if at + 1 < plan.len() {
@@ -144,7 +105,7 @@ fn read_flows(plan: &[u8], lmin: u16, lmax: u16) -> Reading
     let mut row = row::none();
     let mut at = records::LINKS_RECORD;
     while at < plan.len() {
-        let Kind::OfFlow = kind_at(plan, at) else {
+        let Kind::OfFlow = reader::seen(plan, at) else {
             return read_end(plan, at, lmin, lmax, row);
         };
         let f = flow_at(plan, at);
@@ -162,7 +123,7 @@ fn read_flows(plan: &[u8], lmin: u16, lmax: u16) -> Reading
 pub fn read(plan: &[u8]) -> Reading
     ensures { λ r. ⌜ r ≡ readPlan (now (plan .entry)) ⌝ }
 {
-    let Kind::OfLinks = kind_at(plan, 0) else {
+    let Kind::OfLinks = reader::seen(plan, 0) else {
         return refuse(Cause::Malformed, 0);
     };
     let to = records::LINKS_RECORD;

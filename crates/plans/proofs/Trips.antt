@@ -13,28 +13,22 @@ use Rattle.flows.specs.declared.Table.{Table}
 use Rattle.flows.specs.declared.Answer.{Answer}
 use Rattle.flows.specs.declared.Cause.the-variants.{Accepted}
 use Rattle.flows.specs.Refusals.{acceptedBy}
-use Rattle.flows.specs.Lists.{held, rowOf, netOf}
+use Rattle.flows.specs.Lists.{held, rowOf, netOf, netFrom}
 use Rattle.row.proofs.Arrays.{held-rowOf}
 use Rattle.records.proofs.RoundTrip.{Bytes}
 use Rattle.plan.specs.declared.Reading.{Reading}
 use Rattle.plan.specs.Reading.{listed, readPlan}
 use Rattle.plan.specs.Writing.{planBytes}
-use Rattle.plan.specs.Sets.{Readable}
 use Rattle.plan.proofs.Trips.{Lists, plan-lists, write-read}
 use Rattle.engine.specs.declared.Verdict.{Verdict}
 use Rattle.engine.specs.Verdicts.{refused, given, verdictFrom, verdictOf}
 use Rattle.flows.specs.Tests.{delayCause}
 use Rattle.table.specs.Calls.{emptyTable, answered, unless, freshAnswer}
 use Rattle.table.specs.Made.{Made, by-fresh}
-use Rattle.table.proofs.Kept.{netWith, Kept, Right, right-of, cause-refuses, made-right}
+use Rattle.row.specs.Sets.{Readable}
+use Rattle.table.proofs.Kept.{Right, right-of, cause-refuses, made-right}
 use Rattle.table.proofs.Sets.{right-made}
 use Rattle.plans.specs.Plans.{refusedPlan, acceptedPlan, decidedBy, setAnswer, answerTo, planAnswer, tableBytes}
-
-readable-kept : (lmin lmax : ℕ) (fs : List Flow) → Readable lmin lmax fs → Kept lmin lmax fs
-readable-kept lmin lmax fs s = record { delays = s .delays; rising = s .rising; count = s .count; flows = s .flows; typed = s .typed }
-
-kept-readable : (lmin lmax : ℕ) (fs : List Flow) → Kept lmin lmax fs → Readable lmin lmax fs
-kept-readable lmin lmax fs s = record { delays = s .delays; rising = s .rising; count = s .count; flows = s .flows; typed = s .typed }
 
 -- ---- written, then read
 given-decided : (lmin lmax : ℕ) (row : Row) (gs : List net.Figures) → judged (netOf lmin lmax row) ≡ net.Given gs →
@@ -45,7 +39,7 @@ given-decided lmin lmax row gs j = ap (λ (v : net.Judgement). decidedBy lmin lm
 module _ (t : Table) (r : Right t) where
   read-back : readPlan (tableBytes t) ≡ listed (t .lmin) (t .lmax) (t .row)
   read-back =
-      write-read (t .lmin) (t .lmax) (held (t .row)) (kept-readable (t .lmin) (t .lmax) (held (t .row)) (r .set)) ∙
+      write-read (t .lmin) (t .lmax) (held (t .row)) (r .set) ∙
       ap (listed (t .lmin) (t .lmax)) (sym (r .row))
 
   right-back : planAnswer (tableBytes t) ≡ answered Accepted t
@@ -119,11 +113,11 @@ module _ (b : List ℕ) (u : Bytes b) (h : acceptedBy (planAnswer b .cause) ≡ 
   read-made =
       let j = accepted-judged b u h in
       let s = j .lists in
-      let same : judged (netWith (s .lmin) (s .lmax) (s .flows)) ≡ net.Given (j .givens) =
-      ap (λ (l : List Flow). judged (netWith (s .lmin) (s .lmax) l)) (sym (held-rowOf (s .flows))) ∙ j .accepted in
+      let same : judged (netFrom (s .lmin) (s .lmax) (s .flows)) ≡ net.Given (j .givens) =
+      ap (λ (l : List Flow). judged (netFrom (s .lmin) (s .lmax) l)) (sym (held-rowOf (s .flows))) ∙ j .accepted in
       let t : Table = acceptedPlan (s .lmin) (s .lmax) (rowOf (s .flows)) (given (j .givens) .figures) .table in
       subst (λ (a : Answer). Made (a .table)) (sym (j .answer))
-      (right-made t (right-of t (s .flows) (j .givens) refl (readable-kept (s .lmin) (s .lmax) (s .flows) (s .readable)) same refl))
+      (right-made t (right-of t (s .flows) (j .givens) refl (s .readable) same refl))
 
 -- ---- any plan
 -- the answer to a reading, by whether its records and its set are accepted

@@ -39,8 +39,8 @@ fn raise(replies: [u64; PLACES], best: [u64; NODES], a: usize, m: usize) -> Rais
         let at = a * NODES + k;
         let was = to[at];
         let now = best[k];
-        rose = starts::larger(rose, above(was, now));
-        to[at] = starts::larger(was, now);
+        rose = least::greater(rose, above(was, now));
+        to[at] = least::greater(was, now);
         k += 1;
     }
     Raised { replies: to, rose }

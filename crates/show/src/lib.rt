@@ -8,7 +8,7 @@ pub fn put(text: &[u8]) {
     io::write_all(STDOUT_FILENO, text);
 }
 
-pub fn put_number(n: u64) {
+fn put_number(n: u64) {
     io::print_decimal(STDOUT_FILENO, n);
 }
 

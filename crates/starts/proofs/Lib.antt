@@ -3,3 +3,4 @@ pub mod Sums
 pub mod Climb
 pub mod Nodes
 pub mod Tries
+pub mod Only

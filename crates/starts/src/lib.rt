@@ -1,6 +1,6 @@
 // Starting times and response bounds of one flow, from a sheet of numbers that hangs neither on the instant nor on W.
 ghost use mathlib.Core.Path.{_≡_};
-ghost use Prim.Native.Nat.{_+_, _-_, _<_, _≤_, max};
+ghost use Prim.Native.Nat.{_+_, _<_, _≤_};
 ghost use Rattle.least.specs.Count.{count};
 ghost use Rattle.least.specs.Fixed.{Under};
 ghost use Rattle.starts.specs.Sheet.{mostFlows, mostNodes, mostTime, entrySize, sheetSize, instantSlot, values, termOf, sheetSum, sums, Small, Read, Fit};
@@ -108,25 +108,6 @@ pub struct Run {
     pub past: bool,
 }
 
-pub fn larger(a: u64, b: u64) -> u64
-    ensures { λ r. ⌜ r ≡ max a b ⌝ }
-{
-    if a < b {
-        return b;
-    }
-    a
-}
-
-// a − b, and 0 below that
-pub fn less(a: u64, b: u64) -> u64
-    ensures { λ r. ⌜ r ≡ a - b ⌝ }
-{
-    if a < b {
-        return 0;
-    }
-    a - b
-}
-
 // The instant u at the first m nodes, from the run up to the instant before.
 fn instant(e: &[u64; SHEET], run: Run, n: usize, m: usize, u: u64) -> Run
     requires { ⌜ (m ≤ mostNodes) × (n ≤ mostFlows) × (u ≤ mostTime) × Read (now e) (run .slots) × Low (run .best) ⌝ }
@@ -148,9 +129,9 @@ fn instant(e: &[u64; SHEET], run: Run, n: usize, m: usize, u: u64) -> Run
         };
         slots[p] = w;
         let add = e[p * BLOCK + 1];
-        let bound = less(w + add, u);
+        let bound = least::less(w + add, u);
         let so_far = best[p];
-        best[p] = larger(so_far, bound);
+        best[p] = least::greater(so_far, bound);
         p += 1;
     }
     Run {

@@ -14,8 +14,8 @@ use Rattle.rules.proofs.Path.{visits-member, visits-hop, before-visits}
 use Rattle.rules.proofs.Shared.{shared, visits-shared, there-shared, slowest-shared, first-of-shared, first-on-shared, last-on-shared}
 use Rattle.flows.specs.declared.Flow.{Flow}
 use Rattle.flows.specs.declared.Row.{Row}
-use Rattle.flows.specs.Lists.{pathOf, flowOf, held}
-use Rattle.sums.specs.Whole.{netWith, alongOn, leastOver, greatestOver, lowerOver, MOver, term4By, term4Over, term5By, term5Over}
+use Rattle.flows.specs.Lists.{pathOf, flowOf, held, netOf}
+use Rattle.sums.specs.Whole.{alongOn, leastOver, greatestOver, lowerOver, MOver, term4By, term4Over, term5By, term5Over}
 
 -- least values over a list
 module _ {A : Type 0} where
@@ -41,15 +41,15 @@ module _ (row : Row) (i : Flow) (lmin lmax : ℕ) where
   abbrev pub crossing : Flow → Crossing
   crossing j = record { flow = flowOf j; part = shared (pathOf i) (pathOf j) }
 
-  pub sum-crossings : (f : Crossing → ℕ) → sumOf f (crossings (netWith row lmin lmax) (flowOf i)) ≡ sumOf (λ j. f (crossing j)) (held row)
+  pub sum-crossings : (f : Crossing → ℕ) → sumOf f (crossings (netOf lmin lmax row) (flowOf i)) ≡ sumOf (λ j. f (crossing j)) (held row)
   unfolding crossings
   sum-crossings f = sum-map f _ (map flowOf (held row)) ∙ sum-map _ flowOf (held row)
 
-  max-crossings : (f : Crossing → ℕ) → maxOf f (crossings (netWith row lmin lmax) (flowOf i)) ≡ maxOf (λ j. f (crossing j)) (held row)
+  max-crossings : (f : Crossing → ℕ) → maxOf f (crossings (netOf lmin lmax row) (flowOf i)) ≡ maxOf (λ j. f (crossing j)) (held row)
   unfolding crossings
   max-crossings f = max-map f _ (map flowOf (held row)) ∙ max-map _ flowOf (held row)
 
-  min-crossings : (d : ℕ) (f : Crossing → ℕ) → minOf d f (crossings (netWith row lmin lmax) (flowOf i)) ≡ minOf d (λ j. f (crossing j)) (held row)
+  min-crossings : (d : ℕ) (f : Crossing → ℕ) → minOf d f (crossings (netOf lmin lmax row) (flowOf i)) ≡ minOf d (λ j. f (crossing j)) (held row)
   unfolding crossings
   min-crossings d f = min-map d f _ (map flowOf (held row)) ∙ min-map d _ flowOf (held row)
 
@@ -76,29 +76,29 @@ module _ (row : Row) (i : Flow) (lmin lmax : ℕ) where
     along-whole j =
         ap₂ (λ a b. both (higherOrEqual (role (flowOf i) (flowOf j))) (eqb a b)) (first-of-whole j) (first-whole j)
 
-    greatest-whole : (k : Hop) → List·Memᴰ k P → greatestCost (netWith row lmin lmax) (flowOf i) P k ≡ greatestOver row i P k
+    greatest-whole : (k : Hop) → List·Memᴰ k P → greatestCost (netOf lmin lmax row) (flowOf i) P k ≡ greatestOver row i P k
     unfolding greatestCost greatestOver
     greatest-whole k m =
         ap (max (k .cost))
         (max-crossings _
         ∙ max-ext _ _ (held row) (λ j q. ap₂ (λ b c. pick b c 0) (along-whole j) (there-shared (pathOf i) (λ h. h .cost) (k .node) (on k m) (pathOf j))))
 
-    lower-whole : (k : Hop) → List·Memᴰ k P → lowerCost (netWith row lmin lmax) (flowOf i) k ≡ lowerOver row i (k .node)
+    lower-whole : (k : Hop) → List·Memᴰ k P → lowerCost (netOf lmin lmax row) (flowOf i) k ≡ lowerOver row i (k .node)
     unfolding lowerCost lowerOver
     lower-whole k m =
         max-crossings _
         ∙ max-ext _ _ (held row)
         (λ j q. ap (λ c. pick (lower (role (flowOf i) (flowOf j))) c 0) (there-shared (pathOf i) (λ h. h .cost) (k .node) (on k m) (pathOf j)))
 
-    pub term4-whole : term4Over row i P ≡ term4 (netWith row lmin lmax) (flowOf i) P
+    pub term4-whole : term4Over row i P ≡ term4 (netOf lmin lmax row) (flowOf i) P
     unfolding term4 term4Over term4By
     term4-whole = sum-ext _ _ P (λ k m. ap (pick (eqb (k .node) (slowestNode P (flowOf i))) 0) (sym (greatest-whole k m)))
 
-    pub term5-whole : term5Over row i P ≡ term5 (netWith row lmin lmax) (flowOf i) P
+    pub term5-whole : term5Over row i P ≡ term5 (netOf lmin lmax row) (flowOf i) P
     unfolding term5 term5Over term5By
     term5-whole = sum-ext _ _ P (λ k m. ap (λ c. c - 1) (sym (lower-whole k m)))
 
-  least-whole : (k : Hop) → visits (pathOf i) (k .node) ≡ true → leastCost (netWith row lmin lmax) (flowOf i) k ≡ leastOver row i k
+  least-whole : (k : Hop) → visits (pathOf i) (k .node) ≡ true → leastCost (netOf lmin lmax row) (flowOf i) k ≡ leastOver row i k
   unfolding leastCost leastOver
   least-whole k v =
       min-crossings (k .cost) _
@@ -107,6 +107,6 @@ module _ (row : Row) (i : Flow) (lmin lmax : ℕ) where
       (ap₂ both (along-whole (pathOf i) (λ q m. visits-member m) j) (visits-shared (pathOf i) (k .node) v (pathOf j)))
       (there-shared (pathOf i) least (k .node) v (pathOf j)))
 
-  pub M-whole : (h : ℕ) → MOver row i lmin h ≡ M (netWith row lmin lmax) (flowOf i) h
+  pub M-whole : (h : ℕ) → MOver row i lmin h ≡ M (netOf lmin lmax row) (flowOf i) h
   unfolding M MOver
   M-whole h = sum-ext _ _ (before h (pathOf i)) (λ k m. ap (λ c. lmin + c) (sym (least-whole k (before-visits h (k .node) (pathOf i) (visits-member m)))))

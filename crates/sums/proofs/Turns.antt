@@ -13,12 +13,12 @@ use Rattle.rules.specs.Net.{Hop}
 use Rattle.rules.specs.Formula.{both, visits, before, costAt, M, slowestNode, term4, term5}
 use Rattle.flows.specs.declared.Flow.{Flow}
 use Rattle.flows.specs.declared.Row.{Row}
-use Rattle.flows.specs.Lists.{mostFlows, noFlow, pathOf, flowOf, held}
+use Rattle.flows.specs.Lists.{mostFlows, noFlow, pathOf, flowOf, held, netOf}
 use Rattle.flows.proofs.Arrays.{nowhere}
 use Rattle.row.proofs.Arrays.{getD-any, held-at}
 use Rattle.paths.proofs.Loops.{sum-place, sum-end, max-end}
 use Rattle.paths.proofs.Hops.{before-at}
-use Rattle.sums.specs.Whole.{netWith, leastBy, greatestBy, leastOver, greatestOver, lowerOver, MOver, term4By, term4Over, term5By, term5Over}
+use Rattle.sums.specs.Whole.{leastBy, greatestBy, leastOver, greatestOver, lowerOver, MOver, term4By, term4Over, term5By, term5Over}
 use Rattle.sums.proofs.Shared.{visits-take, M-whole, term4-whole, term5-whole}
 
 -- the flow at a place of the row
@@ -82,10 +82,10 @@ module _ (row : Row) (i : Flow) where
     term4-start e = rw e (omega arith)
 
   module _ (p : Flow) (upto : ℕ) (cut : pathOf p ≡ take upto (pathOf i)) (r : ℕ) where
-    pub term4-made : r ≡ term4Over row i (pathOf p) → (lmin lmax : ℕ) → r ≡ term4 (netWith row lmin lmax) (flowOf i) (take upto (pathOf i))
+    pub term4-made : r ≡ term4Over row i (pathOf p) → (lmin lmax : ℕ) → r ≡ term4 (netOf lmin lmax row) (flowOf i) (take upto (pathOf i))
     term4-made e lmin lmax = e ∙ ap (term4Over row i) cut ∙ term4-whole row i lmin lmax (take upto (pathOf i)) (visits-take upto (pathOf i))
 
-    pub term5-made : r ≡ term5Over row i (pathOf p) → (lmin lmax : ℕ) → r ≡ term5 (netWith row lmin lmax) (flowOf i) (take upto (pathOf i))
+    pub term5-made : r ≡ term5Over row i (pathOf p) → (lmin lmax : ℕ) → r ≡ term5 (netOf lmin lmax row) (flowOf i) (take upto (pathOf i))
     term5-made e lmin lmax = e ∙ ap (term5Over row i) cut ∙ term5-whole row i lmin lmax (take upto (pathOf i)) (visits-take upto (pathOf i))
 
   pub term5-more : (P : List Hop) (n k sum e x y : ℕ) → n ≡ length P → sum + sumOf (term5By row i) (drop k P) ≡ e → k < n →
@@ -102,7 +102,7 @@ module _ (row : Row) (i : Flow) where
         sum-place (λ q. lmin + leastOver row i q) (before h (pathOf i)) n k len (MOver row i lmin h) sum inv nowhere (lmin + x) l
         (ap (λ c. lmin + c) (e ∙ ap (leastOver row i) (sym (before-at h (pathOf i) n k len l))))
 
-    pub M-made : n ≤ k → (lmax : ℕ) → sum ≡ M (netWith row lmin lmax) (flowOf i) h
+    pub M-made : n ≤ k → (lmax : ℕ) → sum ≡ M (netOf lmin lmax row) (flowOf i) h
     M-made l lmax =
         sum-end (λ q. lmin + leastOver row i q) (before h (pathOf i)) n k len (MOver row i lmin h) sum inv l
         ∙ M-whole row i lmin lmax h

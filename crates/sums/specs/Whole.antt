@@ -13,9 +13,6 @@ use Rattle.flows.specs.declared.Flow.{Flow}
 use Rattle.flows.specs.declared.Row.{Row}
 use Rattle.flows.specs.Lists.{pathOf, flowOf, held}
 
-abbrev pub netWith : Row → ℕ → ℕ → net.Net
-netWith row lmin lmax = record { lmin = lmin; lmax = lmax; flows = map flowOf (held row) }
-
 -- j is higher or equal, and runs along i on P
 abbrev pub alongOn : Flow → List Hop → Flow → Bool
 alongOn i P j = both (higherOrEqual (role (flowOf i) (flowOf j))) (eqb (firstOn (pathOf j) P) (firstOn P (pathOf j)))

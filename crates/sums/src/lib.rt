@@ -5,9 +5,9 @@ ghost use mathlib.Core.Path.{_≡_};
 ghost use Prim.Native.Nat.{ℕ, _*_, _-_, _≤_, _<_};
 ghost use lib.ListN.{length, getD, take};
 ghost use Rattle.rules.specs.Formula.{M, term4, term5};
-ghost use Rattle.flows.specs.Lists.{noFlow, pathOf, flowOf, held};
+ghost use Rattle.flows.specs.Lists.{noFlow, pathOf, flowOf, held, netOf};
 ghost use Rattle.paths.specs.Paths.{hopAt};
-ghost use Rattle.sums.specs.Whole.{netWith, alongOn, leastBy, greatestBy, lowerBy, leastOver, greatestOver, lowerOver, term4By, term4Over, term5Over};
+ghost use Rattle.sums.specs.Whole.{alongOn, leastBy, greatestBy, lowerBy, leastOver, greatestOver, lowerOver, term4By, term4Over, term5Over};
 
 pub fn flow_at(row: Row, k: usize) -> Flow
     requires { ⌜ k < length (held row) ⌝ }
@@ -51,7 +51,7 @@ fn least_cost(row: Row, i: Flow, k: usize) -> u64
     let mut cost = paths::cost_of(i, k) as u64;
     let mut at: usize = 0;
     while at < n {
-        cost = paths::lesser(cost, least_by(i, k, flow_at(row, at)));
+        cost = least::lesser(cost, least_by(i, k, flow_at(row, at)));
         at += 1;
     }
     cost
@@ -59,7 +59,7 @@ fn least_cost(row: Row, i: Flow, k: usize) -> u64
 
 // M of i at a node.
 pub fn least_way(row: Row, lmin: u16, i: Flow, node: u8) -> u64
-    ensures { λ r. ⌜ ((lmax : ℕ) → r ≡ M (netWith row lmin lmax) (flowOf i) node) ⌝ }
+    ensures { λ r. ⌜ ((lmax : ℕ) → r ≡ M (netOf lmin lmax row) (flowOf i) node) ⌝ }
     ensures { λ r. ⌜ r ≤ 8 * 131070 ⌝ }
 {
     let n = paths::position(i, node);
@@ -93,7 +93,7 @@ fn greatest_cost(row: Row, i: Flow, p: Flow, k: usize) -> u64
     let mut most = paths::cost_of(p, k) as u64;
     let mut at: usize = 0;
     while at < n {
-        most = paths::greater(most, greatest_by(i, p, node, flow_at(row, at)));
+        most = least::greater(most, greatest_by(i, p, node, flow_at(row, at)));
         at += 1;
     }
     most
@@ -128,7 +128,7 @@ fn term4_on(row: Row, i: Flow, p: Flow) -> u64
 
 // Term 4 on the first nodes of i's path.
 pub fn term4(row: Row, i: Flow, upto: usize) -> u64
-    ensures { λ r. ⌜ ((lmin lmax : ℕ) → r ≡ term4 (netWith row lmin lmax) (flowOf i) (take upto (pathOf i))) ⌝ }
+    ensures { λ r. ⌜ ((lmin lmax : ℕ) → r ≡ term4 (netOf lmin lmax row) (flowOf i) (take upto (pathOf i))) ⌝ }
     ensures { λ r. ⌜ r ≤ 8 * 65535 ⌝ }
 {
     term4_on(row, i, paths::prefix_of(i, upto))
@@ -154,7 +154,7 @@ fn lower_less_one(row: Row, i: Flow, node: u8) -> u64
     let mut most: u64 = 1;
     let mut at: usize = 0;
     while at < n {
-        most = paths::greater(most, lower_by(i, node, flow_at(row, at)));
+        most = least::greater(most, lower_by(i, node, flow_at(row, at)));
         at += 1;
     }
     most - 1
@@ -176,7 +176,7 @@ fn term5_on(row: Row, i: Flow, p: Flow) -> u64
 
 // Term 5 on the first nodes of i's path.
 pub fn term5(row: Row, i: Flow, upto: usize) -> u64
-    ensures { λ r. ⌜ ((lmin lmax : ℕ) → r ≡ term5 (netWith row lmin lmax) (flowOf i) (take upto (pathOf i))) ⌝ }
+    ensures { λ r. ⌜ ((lmin lmax : ℕ) → r ≡ term5 (netOf lmin lmax row) (flowOf i) (take upto (pathOf i))) ⌝ }
     ensures { λ r. ⌜ r ≤ 8 * 65535 ⌝ }
 {
     term5_on(row, i, paths::prefix_of(i, upto))

@@ -15,13 +15,14 @@ use Rattle.flows.specs.declared.Flow.{Flow}
 use Rattle.flows.specs.declared.Table.{Table}
 use Rattle.flows.specs.declared.Cause.the-variants.{Accepted, Delays, Crossing, NoBusyLength, Unsettled, PastDeadline}
 use Rattle.flows.specs.Refusals.{numberOf, acceptedBy}
-use Rattle.flows.specs.Lists.{mostFlows, held, rowOf, flowOf, netOf, tableNet}
+use Rattle.flows.specs.Lists.{mostFlows, held, rowOf, flowOf, netFrom, netOf, tableNet}
 use Rattle.flows.specs.Tests.{mostDelay, delayCause, flowCause}
 use Rattle.flows.specs.WellFormed.{Each, each-none, Typed}
-use Rattle.flows.proofs.Causes.{accepted-only}
+use Rattle.flows.proofs.Causes.{accepted-only, delays-small}
 use Rattle.flows.proofs.Passed.{well-formed}
 use Rattle.row.specs.declared.Found.{Found}
 use Rattle.row.specs.declared.Found.the-variants.{At, Nothing}
+use Rattle.row.specs.Sets.{Readable}
 use Rattle.row.specs.Rows.{foundIn, insertSorted, without, inserted, entryCause, Rising, rising-none}
 use Rattle.row.proofs.Arrays.{held-rowOf}
 use Rattle.row.proofs.Sets.{insert-rising, without-rising, insert-each, without-each, Enters, enters}
@@ -31,54 +32,34 @@ use Rattle.table.specs.Calls.{emptyTable, answered, unless, freshAnswer,
 use Rattle.table.specs.Made.{Made, by-fresh, by-admit, by-withdraw}
 use Rattle.table.proofs.Nets.{none-accepted, part-accepted}
 
--- the set of the rules that these flows are
-abbrev pub netWith : ℕ → ℕ → List Flow → net.Net
-netWith lmin lmax fs = record { lmin = lmin; lmax = lmax; flows = map flowOf fs }
-
--- flows that passed refusals 1 to 6, in rising number
-pub record Kept (lmin lmax : ℕ) (fs : List Flow) : Type 0 where
-  pub delays : delayCause lmin lmax ≡ Accepted
-  pub rising : Rising 0 fs
-  pub count : length fs ≤ mostFlows
-  pub flows : Each (λ f. flowCause f ≡ Accepted) fs
-  pub typed : Each Typed fs
-
 pub record Right (t : Table) : Type 0 where
-  pub set : Kept (t .lmin) (t .lmax) (held (t .row))
+  pub set : Readable (t .lmin) (t .lmax) (held (t .row))
   pub row : t .row ≡ rowOf (held (t .row))
   pub givens : List net.Figures
   pub accepted : judged (tableNet t) ≡ net.Given givens
   pub figures : t .figures ≡ given givens .figures
 
-delays-fit : (lmin lmax : ℕ) → delayCause lmin lmax ≡ Accepted → lmin ≤ lmax
-unfolding delayCause
-delays-fit lmin lmax e = go (ltb lmax lmin) (ltb mostDelay lmax) refl (ap numberOf e)
-  where
-    go : (p q : Bool) → ltb lmax lmin ≡ p → numberOf (cond (p || q) Delays Accepted) ≡ 0 → lmin ≤ lmax
-    go true q i z = absurd (omega arith)
-    go false q i z = ltb-false lmax lmin i
+row-net : (lmin lmax : ℕ) (fs : List Flow) → netOf lmin lmax (rowOf fs) ≡ netFrom lmin lmax fs
+row-net lmin lmax fs = ap (netFrom lmin lmax) (held-rowOf fs)
 
-row-net : (lmin lmax : ℕ) (fs : List Flow) → netOf lmin lmax (rowOf fs) ≡ netWith lmin lmax fs
-row-net lmin lmax fs = ap (netWith lmin lmax) (held-rowOf fs)
-
-pub kept-valid : (lmin lmax : ℕ) (fs : List Flow) → Kept lmin lmax fs → Valid (netWith lmin lmax fs)
+pub kept-valid : (lmin lmax : ℕ) (fs : List Flow) → Readable lmin lmax fs → Valid (netFrom lmin lmax fs)
 kept-valid lmin lmax fs k =
-    subst Valid (row-net lmin lmax fs) (row-valid lmin lmax fs (delays-fit lmin lmax (k .delays)) (k .rising) (k .flows) (k .typed))
+    subst Valid (row-net lmin lmax fs) (row-valid lmin lmax fs (delays-small lmin lmax (k .delays) .0) (k .rising) (k .flows) (k .typed))
 
-pub right-of : (t : Table) (fs : List Flow) (gs : List net.Figures) → t .row ≡ rowOf fs → Kept (t .lmin) (t .lmax) fs →
-    judged (netWith (t .lmin) (t .lmax) fs) ≡ net.Given gs → t .figures ≡ given gs .figures → Right t
+pub right-of : (t : Table) (fs : List Flow) (gs : List net.Figures) → t .row ≡ rowOf fs → Readable (t .lmin) (t .lmax) fs →
+    judged (netFrom (t .lmin) (t .lmax) fs) ≡ net.Given gs → t .figures ≡ given gs .figures → Right t
 right-of t fs gs e k j g =
     let h : held (t .row) ≡ fs = ap held e ∙ held-rowOf fs in
     record {
-      set = subst (Kept (t .lmin) (t .lmax)) (sym h) k;
+      set = subst (Readable (t .lmin) (t .lmax)) (sym h) k;
       row = e ∙ ap rowOf (sym h);
       givens = gs;
-      accepted = ap (λ (l : List Flow). judged (netWith (t .lmin) (t .lmax) l)) h ∙ j;
+      accepted = ap (λ (l : List Flow). judged (netFrom (t .lmin) (t .lmax) l)) h ∙ j;
       figures = g;
     }
 
 -- ---- the empty table
-kept-none : (lmin lmax : ℕ) → delayCause lmin lmax ≡ Accepted → Kept lmin lmax []
+kept-none : (lmin lmax : ℕ) → delayCause lmin lmax ≡ Accepted → Readable lmin lmax []
 kept-none lmin lmax e = record { delays = e; rising = rising-none; count = omega arith; flows = each-none; typed = each-none }
 
 pub empty-right : (lmin lmax : ℕ) → delayCause lmin lmax ≡ Accepted → Right (emptyTable lmin lmax)
@@ -123,7 +104,7 @@ module _ (t : Table) (f : Flow) (n : Enters (held (t .row)) f) where
   unfolding inserted
   admit-row = rw (lt-leb mostFlows (length (held (t .row))) (n .room))
 
-  pub admit-kept : Kept (t .lmin) (t .lmax) (held (t .row)) → Typed f → Kept (t .lmin) (t .lmax) fs′
+  pub admit-kept : Readable (t .lmin) (t .lmax) (held (t .row)) → Typed f → Readable (t .lmin) (t .lmax) fs′
   admit-kept k u =
       let w = well-formed f u (n .flow) in
       record {
@@ -136,7 +117,7 @@ module _ (t : Table) (f : Flow) (n : Enters (held (t .row)) f) where
 
   -- the judgement of the enlarged set decides
   pub admit-decided : entryCause (held (t .row)) f ≡ Accepted →
-      admitted t f ≡ decided t (rowOf fs′) (verdictFrom (judged (netWith (t .lmin) (t .lmax) fs′)))
+      admitted t f ≡ decided t (rowOf fs′) (verdictFrom (judged (netFrom (t .lmin) (t .lmax) fs′)))
   unfolding admitted unless verdictOf
   admit-decided e = rw (e, admit-row, held-rowOf fs′)
 
@@ -145,7 +126,7 @@ module _ (t : Table) (r : Right t) where
   unfolding admitted decided unless answered verdictFrom given holding refused
   admit-right f u = go (acceptedBy (entryCause (held (t .row)) f)) refl
     where
-      next : (n : Enters (held (t .row)) f) (v : net.Judgement) → judged (netWith (t .lmin) (t .lmax) (insertSorted f (held (t .row)))) ≡ v →
+      next : (n : Enters (held (t .row)) f) (v : net.Judgement) → judged (netFrom (t .lmin) (t .lmax) (insertSorted f (held (t .row)))) ≡ v →
           Right (decided t (rowOf (insertSorted f (held (t .row)))) (verdictFrom v) .table)
       next n (net.Given gs) j = right-of _ (insertSorted f (held (t .row))) gs refl (admit-kept t f n (r .set) u) j refl
       next n (net.Refused k m) j = rw (cause-refuses k m) r
@@ -180,7 +161,7 @@ module _ (t : Table) (r : Right t) (number : ℕ) where
   abbrev fewer : List Flow
   fewer = without number (held (t .row))
 
-  pub withdraw-kept : Kept (t .lmin) (t .lmax) fewer
+  pub withdraw-kept : Readable (t .lmin) (t .lmax) fewer
   withdraw-kept =
       let k = r .set in
       record {
@@ -192,9 +173,9 @@ module _ (t : Table) (r : Right t) (number : ℕ) where
       }
 
   -- the smaller set is accepted
-  pub fewer-given : (gs : List net.Figures) × (judged (netWith (t .lmin) (t .lmax) fewer) ≡ net.Given gs)
+  pub fewer-given : (gs : List net.Figures) × (judged (netFrom (t .lmin) (t .lmax) fewer) ≡ net.Given gs)
   fewer-given =
-      part-accepted (netWith (t .lmin) (t .lmax) fewer) (tableNet t) refl refl (sublist-map flowOf (without-part number (held (t .row))))
+      part-accepted (netFrom (t .lmin) (t .lmax) fewer) (tableNet t) refl refl (sublist-map flowOf (without-part number (held (t .row))))
       (kept-valid (t .lmin) (t .lmax) (held (t .row)) (r .set)) (r .givens) (r .accepted)
 
   pub withdraw-right : Right (withdrawn t number .table)

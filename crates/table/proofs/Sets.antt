@@ -15,8 +15,9 @@ use Rattle.flows.specs.declared.Figures.{Figures}
 use Rattle.flows.specs.declared.Table.{Table}
 use Rattle.flows.specs.declared.Answer.{Answer}
 use Rattle.flows.specs.declared.Cause.the-variants.{Accepted}
-use Rattle.flows.specs.Lists.{held, rowOf, flowOf}
+use Rattle.flows.specs.Lists.{held, rowOf, flowOf, netFrom}
 use Rattle.flows.specs.WellFormed.{Each, each-none, each-more}
+use Rattle.flows.proofs.Passed.{each-member}
 use Rattle.row.specs.Rows.{firstOf, placeOf, insertSorted, without, entryCause}
 use Rattle.row.proofs.Arrays.{held-rowOf}
 use Rattle.row.proofs.Sets.{Lacks, same-flows, without-only, Enters}
@@ -24,7 +25,8 @@ use Rattle.engine.specs.Verdicts.{given, verdictFrom}
 use Rattle.table.specs.Calls.{emptyTable, answered, unless, freshAnswer, holding, decided, judgedRow, admitted, withdrawnBy, withdrawn}
 use Rattle.table.specs.Made.{Made, by-fresh, by-admit}
 use Rattle.table.specs.Figured.{Present}
-use Rattle.table.proofs.Kept.{netWith, Kept, Right, right-of, empty-right, admit-decided, withdraw-right, made-right}
+use Rattle.row.specs.Sets.{Readable}
+use Rattle.table.proofs.Kept.{Right, right-of, empty-right, admit-decided, withdraw-right, made-right}
 use Rattle.table.proofs.Figures.{right-valid, found-present}
 
 same-parts : (t u : Table) → t .lmin ≡ u .lmin → t .lmax ≡ u .lmax → t .row ≡ u .row → t .figures ≡ u .figures → t ≡ u
@@ -36,7 +38,7 @@ Within t u = (f : Flow) → Present t f → Present u f
 
 right-same : (t u : Table) → Right t → Right u → t .lmin ≡ u .lmin → t .lmax ≡ u .lmax → held (t .row) ≡ held (u .row) → t ≡ u
 right-same t u r s a b h =
-    let n : netWith (t .lmin) (t .lmax) (held (t .row)) ≡ netWith (u .lmin) (u .lmax) (held (u .row)) = rw (a, b, h) in
+    let n : netFrom (t .lmin) (t .lmax) (held (t .row)) ≡ netFrom (u .lmin) (u .lmax) (held (u .row)) = rw (a, b, h) in
     let j : net.Given (r .givens) ≡ net.Given (s .givens) = sym (r .accepted) ∙ ap judged n ∙ s .accepted in
     let g : r .givens ≡ s .givens = cc in
     same-parts t u a b (r .row ∙ ap rowOf h ∙ sym (s .row)) (r .figures ∙ ap (λ (l : List net.Figures). given l .figures) g ∙ sym (s .figures))
@@ -50,10 +52,6 @@ equal-tables t u m n a b p q =
 
 -- ---- a flow withdrawn and admitted again
 module _ {A : Type 0} {P : A → Type 0} where
-  each-here : {l : List A} {x : A} → Each P l → List·Memᴰ x l → P x
-  each-here (each-more p e) (List·Memᴰ·head q) = subst P (sym q) p
-  each-here (each-more p e) (List·Memᴰ·tail m) = each-here e m
-
   each-from : (l : List A) → ((x : A) → List·Memᴰ x l → P x) → Each P l
   each-from [] g = each-none
   each-from (x ∷ l) g = each-more (g x (List·Memᴰ·head refl)) (each-from l (λ y m. g y (List·Memᴰ·tail m)))
@@ -118,7 +116,7 @@ module _ (t : Table) (r : Right t) (f : Flow) (m : Present t f) where
 
   left : Enters fewer f
   left = record {
-    flow = each-here (r .set .flows) m;
+    flow = each-member _ (held (t .row)) (r .set .flows) m;
     lacks = each-from fewer (λ g n. without-only (f .number) g (held (t .row)) (r .set .rising) n .0);
     room = omega (arith, shorter f (held (t .row)) m, r .set .count);
   }
@@ -128,7 +126,7 @@ module _ (t : Table) (r : Right t) (f : Flow) (m : Present t f) where
   readmitted s a b h =
       let n : Enters (held (s .row)) f = subst (λ l. Enters l f) (sym h) left in
       let e : insertSorted f (held (s .row)) ≡ held (t .row) = ap (insertSorted f) h ∙ insert-without f (held (t .row)) (right-valid t r .rising) m in
-      let j : judged (netWith (s .lmin) (s .lmax) (insertSorted f (held (s .row)))) ≡ net.Given (r .givens) = rw (a, b, e) (r .accepted) in
+      let j : judged (netFrom (s .lmin) (s .lmax) (insertSorted f (held (s .row)))) ≡ net.Given (r .givens) = rw (a, b, e) (r .accepted) in
       let u : Table = holding s (rowOf (insertSorted f (held (s .row)))) (given (r .givens) .figures) in
       admit-decided s f n (entered (held (s .row)) f n) ∙ ap (λ (v : net.Judgement). decided s (rowOf (insertSorted f (held (s .row)))) (verdictFrom v)) j ∙
       ap (answered Accepted) (same-parts u t a b (ap rowOf e ∙ sym (r .row)) (sym (r .figures)))
@@ -162,12 +160,12 @@ made-in (suc n) t r e = go (held (t .row)) refl (λ s q l. made-in n s q l)
         let q : held (withdrawn t (f .number) .table .row) ≡ fs =
         withdraw-held t r f m ∙ ap (without (f .number)) h ∙ rw (eq-eqb (f .number) (f .number) refl) in
         let k = ih (withdrawn t (f .number) .table) (withdraw-right t r (f .number)) (omega (arith, ap length q, ap length h)) in
-        subst Made (ap (λ (a : Answer). a .table) (right-again t r f m)) (by-admit f k (each-here (r .set .typed) m))
+        subst Made (ap (λ (a : Answer). a .table) (right-again t r f m)) (by-admit f k (each-member _ (held (t .row)) (r .set .typed) m))
 
 -- A set that every refusal lets pass, with its figures, is a table that calls make
 pub right-made : (t : Table) → Right t → Made t
 right-made t r = made-in (length (held (t .row))) t r refl
 
-pub accepted-made : (lmin lmax : ℕ) (fs : List Flow) (gs : List net.Figures) → Kept lmin lmax fs → judged (netWith lmin lmax fs) ≡ net.Given gs →
+pub accepted-made : (lmin lmax : ℕ) (fs : List Flow) (gs : List net.Figures) → Readable lmin lmax fs → judged (netFrom lmin lmax fs) ≡ net.Given gs →
     Made (record { lmin = lmin; lmax = lmax; row = rowOf fs; figures = given gs .figures })
 accepted-made lmin lmax fs gs k j = right-made _ (right-of (record { lmin = lmin; lmax = lmax; row = rowOf fs; figures = given gs .figures }) fs gs refl k j refl)

@@ -18,7 +18,7 @@ use Rattle.flows.specs.declared.Asked.the-variants.{Given, Refused}
 use Rattle.flows.specs.declared.Cause.{Cause}
 use Rattle.flows.specs.declared.Cause.the-variants.{Accepted, Absent}
 use Rattle.flows.specs.Refusals.{acceptedBy, refusalOf}
-use Rattle.flows.specs.Lists.{mostFlows, noFlow, held, rowOf, netOf}
+use Rattle.flows.specs.Lists.{mostFlows, noFlow, held, rowOf, netOf, netFrom}
 use Rattle.flows.specs.Tests.{delayCause}
 use Rattle.flows.specs.WellFormed.{Typed}
 use Rattle.flows.proofs.Causes.{accepted-only}
@@ -31,7 +31,7 @@ use Rattle.engine.specs.declared.Verdict.{Verdict}
 use Rattle.engine.specs.Verdicts.{noFigures, verdictOf}
 use Rattle.table.specs.Calls.{emptyTable, answered, unless, freshAnswer, holding, decided, judgedRow, admitted, withdrawnBy, withdrawn, askedBy, askedFor}
 use Rattle.table.specs.Made.{Made, by-fresh, by-admit, by-withdraw}
-use Rattle.table.proofs.Kept.{netWith, kept-valid, admit-row, admit-kept, withdraw-kept, made-right}
+use Rattle.table.proofs.Kept.{kept-valid, admit-row, admit-kept, withdraw-kept, made-right}
 
 pub empty-made : (lmin lmax : ℕ) (row : Row) (none : Figures) → row ≡ rowOf [] → none ≡ noFigures →
     record { lmin = lmin; lmax = lmax; row = row; figures = replicate mostFlows none } ≡ emptyTable lmin lmax
@@ -69,8 +69,8 @@ module _ (t : Table) (row : Row) (v : Verdict) (b : Bool) (g : b ≡ acceptedBy 
   unfolding decided unless
   decided-accepted u h i j = j ∙ ap (answered Accepted) i ∙ rw (← g, not-false b h)
 
-row-valid-net : (lmin lmax : ℕ) (fs : List Flow) (row : Row) → row ≡ rowOf fs → Valid (netWith lmin lmax fs) → Valid (netOf lmin lmax row)
-row-valid-net lmin lmax fs row e v = subst (λ (l : List Flow). Valid (netWith lmin lmax l)) (sym (ap held e ∙ held-rowOf fs)) v
+row-valid-net : (lmin lmax : ℕ) (fs : List Flow) (row : Row) → row ≡ rowOf fs → Valid (netFrom lmin lmax fs) → Valid (netOf lmin lmax row)
+row-valid-net lmin lmax fs row e v = subst (λ (l : List Flow). Valid (netFrom lmin lmax l)) (sym (ap held e ∙ held-rowOf fs)) v
 
 -- ---- admit
 module _ (t : Table) (f : Flow) (u : Typed f) (cause : Cause) (e : cause ≡ entryCause (held (t .row)) f) (b : Bool) (g : b ≡ acceptedBy cause) (r : Answer) where

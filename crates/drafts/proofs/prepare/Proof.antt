@@ -1,5 +1,5 @@
 use Prim.Native.Nat.{_-_, _≤_, _<_}
-use Rattle.drafts.proofs.Setting.{Flows, flows-start, flows-more, setup-made}
+use Rattle.drafts.proofs.Setting.{Flows, flows-start, flows-more, setup-made, draft-made}
 use borrow.Author.Needs.{needs}
 use native.Mathlib.Omega.{arith}
 use Rattle.drafts.proofs.prepare.Statement.{statement}
@@ -65,7 +65,7 @@ loop-again : tie.Need-loop-again Inv-loop μ-loop
 loop-again c = let l = c .before .before .before .before .before .loop in let i = c .before .before .before .flow-at in let m = c .before .before .path-end in let b = c .before .busy-length in let few = c .before .before .before .before .before .before .before .before .before .before .before .size .ensures .1 in let p : i .result .priority < 256 = search needs in (search needs, flows-more _ _ _ (l .lengths) (l .busies) (l .priorities) (l .a) (l .inv .1) (omega arith) (i .result) (i .ensures) (m .result) (b .result) (m .ensures .0) (m .ensures .1) (b .ensures .0) (b .ensures .1) p)
 
 returns : tie.Need-returns Inv-loop μ-loop
-returns c = let l = c .before .loop in let n = c .before .before .before .before .before .before .before .size .ensures in let t = c .before .before .before .before .before .before .tabulate .ensures in (setup-made _ _ _ _ _ _ (l .lengths) (l .busies) (l .priorities) _ _ (l .a) (n .0) (n .1) (search needs) (t .0) (l .inv .1) (c .before .before .all-reads .ensures), (n, (t .1, (l .inv .1 .long .low, l .inv .1 .busy .low))))
+returns c = let l = c .before .loop in let n = c .before .before .before .before .before .before .before .size .ensures in let t = c .before .before .before .before .before .before .tabulate .ensures in (draft-made _ _ _ _ (l .a) (n .0) (search needs) (t .0) (l .inv .1) (c .before .before .all-reads .ensures), (setup-made _ _ _ _ _ _ (l .lengths) (l .busies) (l .priorities) _ _ (l .a) (n .0) (n .1) (search needs) (t .0) (l .inv .1) (c .before .before .all-reads .ensures), (n, (t .1, (l .inv .1 .long .low, l .inv .1 .busy .low)))))
 
 pub prepare-spec : {M : Type 1} → statement M
 prepare-spec =

@@ -1,13 +1,13 @@
 use Rattle.drafts.proofs.Tables.{Cells, cells-start, cells-more, cells-are, cells-small}
+use Rattle.flows.specs.Lists.{netOf}
 use Rattle.drafts.specs.Cells.{draftSize}
-use Rattle.sums.specs.Whole.{netWith}
 use Prim.Native.Nat.{_-_}
 use borrow.Author.Needs.{needs}
 use Rattle.drafts.proofs.tabulate.Statement.{statement}
 use Rattle.drafts.proofs.tabulate.Tie as tie
 
 abbrev Inv-loop : tie.InvT-loop
-Inv-loop row lmin lmax nums₀ from₀ also₀ k₀ nums from also k = Cells (netWith row lmin lmax) nums from also k
+Inv-loop row lmin lmax nums₀ from₀ also₀ k₀ nums from also k = Cells (netOf lmin lmax row) nums from also k
 
 abbrev μ-loop : tie.MeasureT-loop
 μ-loop row lmin lmax nums₀ from₀ also₀ k₀ nums from also k = draftSize - k

@@ -1,12 +1,12 @@
 use native.Mathlib.Omega.{arith}
 use borrow.Author.Needs.{needs}
-use Rattle.plan.proofs.Places.{whole-links}
+use Rattle.reader.proofs.Places.{whole-links}
 use Rattle.plan.proofs.Steps.{plan-other, plan-delays, plan-read}
 use Rattle.plan.proofs.read.Statement.{statement}
 use Rattle.plan.proofs.read.Tie as tie
 
-kind-at-requires : tie.Need-kind-at-requires
-kind-at-requires c κs = search needs
+seen-requires : tie.Need-seen-requires
+seen-requires c κs = search needs
 
 enum-told : tie.Need-enum-told
 enum-told c = search needs
@@ -24,7 +24,7 @@ part-read-links-start : tie.Need-part-read-links-start
 part-read-links-start c = search needs
 
 part-read-links-end : tie.Need-part-read-links-end
-part-read-links-end c = omega (arith, whole-links _ _ _ (c .before .before .kind-at .ensures) (c .enum-told .given .1))
+part-read-links-end c = omega (arith, whole-links _ _ _ (c .before .before .seen .ensures) (c .enum-told .given .1))
 
 read-links-requires : tie.Need-read-links-requires
 read-links-requires c κs = search needs
@@ -51,7 +51,7 @@ pub read-spec : {M : Type 1} → statement M
 read-spec =
     tie.close
     (tie.spec
-    kind-at-requires
+    seen-requires
     enum-told
     refuse-requires
     returns

@@ -1,12 +1,12 @@
 use native.Mathlib.Omega.{arith}
 use borrow.Author.Needs.{needs}
-use Rattle.plan.proofs.Places.{whole-end}
+use Rattle.reader.proofs.Places.{whole-end}
 use Rattle.plan.proofs.Steps.{end-other, end-more, end-last}
 use Rattle.plan.proofs.read_end.Statement.{statement}
 use Rattle.plan.proofs.read_end.Tie as tie
 
-kind-at-requires : tie.Need-kind-at-requires
-kind-at-requires c κs = search needs
+seen-requires : tie.Need-seen-requires
+seen-requires c κs = search needs
 
 enum-told : tie.Need-enum-told
 enum-told c = search needs
@@ -18,7 +18,7 @@ returns : tie.Need-returns
 returns c = search end-other
 
 add-if1 : tie.Need-add-if1
-add-if1 c = omega (arith, whole-end _ _ _ (c .before .before .kind-at .ensures) (c .enum-told .given .1))
+add-if1 c = omega (arith, whole-end _ _ _ (c .before .before .seen .ensures) (c .enum-told .given .1))
 
 add-refuse : tie.Need-add-refuse
 add-refuse c = search needs
@@ -36,7 +36,7 @@ pub read-end-spec : {M : Type 1} → statement M
 read-end-spec =
     tie.close
     (tie.spec
-    kind-at-requires
+    seen-requires
     enum-told
     refuse-requires
     returns

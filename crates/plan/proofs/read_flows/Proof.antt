@@ -5,7 +5,7 @@ use lib.ListN.{length}
 use borrow.Author.Needs.{needs}
 use Rattle.flows.specs.Lists.{mostFlows, held, rowOf}
 use Rattle.plan.specs.Reading.{readFlows, readAfterLinks}
-use Rattle.plan.proofs.Places.{whole-flow}
+use Rattle.reader.proofs.Places.{whole-flow}
 use Rattle.plan.proofs.Steps.{flows-start, start-made, flows-other, flows-none, flows-refused, flows-more, flows-made}
 use Rattle.plan.proofs.read_flows.Statement.{statement}
 use Rattle.plan.proofs.read_flows.Tie as tie
@@ -22,8 +22,8 @@ none-requires c κs = search needs
 loop-holds : tie.Need-loop-holds Inv-loop μ-loop
 loop-holds c = (search start-made, search flows-start)
 
-kind-at-requires : tie.Need-kind-at-requires Inv-loop μ-loop
-kind-at-requires c κs = search needs
+seen-requires : tie.Need-seen-requires Inv-loop μ-loop
+seen-requires c κs = search needs
 
 enum-told : tie.Need-enum-told Inv-loop μ-loop
 enum-told c = search needs
@@ -35,7 +35,7 @@ returns : tie.Need-returns Inv-loop μ-loop
 returns c = search flows-other
 
 flow-at-requires : tie.Need-flow-at-requires Inv-loop μ-loop
-flow-at-requires c κs = omega (arith, whole-flow _ _ _ (c .before .before .kind-at .ensures) (c .enum-told .given .1))
+flow-at-requires c κs = omega (arith, whole-flow _ _ _ (c .before .before .seen .ensures) (c .enum-told .given .1))
 
 record-cause-requires : tie.Need-record-cause-requires Inv-loop μ-loop
 record-cause-requires c κs = search needs
@@ -59,7 +59,7 @@ loop-less : tie.Need-loop-less Inv-loop μ-loop
 loop-less c = search needs
 
 loop-again : tie.Need-loop-again Inv-loop μ-loop
-loop-again c = let a = c .before .before in let f = a .before .before in let k = f .before .before .before in let l = k .before .before in (search flows-made, flows-more _ _ (l .loop .row) _ (l .loop .at) _ (l .loop .inv .0) (l .loop .inv .1) _ (k .kind-at .ensures) (f .before .enum-told .given .1) _ (f .flow-at .ensures) _ (a .before .record-cause .ensures) _ (a .accepted .ensures) (c .before .if1 .left) _ (c .append .ensures))
+loop-again c = let a = c .before .before in let f = a .before .before in let k = f .before .before .before in let l = k .before .before in (search flows-made, flows-more _ _ (l .loop .row) _ (l .loop .at) _ (l .loop .inv .0) (l .loop .inv .1) _ (k .seen .ensures) (f .before .enum-told .given .1) _ (f .flow-at .ensures) _ (a .before .record-cause .ensures) _ (a .accepted .ensures) (c .before .if1 .left) _ (c .append .ensures))
 
 read-end-requires-2 : tie.Need-read-end-requires-2 Inv-loop μ-loop
 read-end-requires-2 c κs = search needs
@@ -75,7 +75,7 @@ read-flows-spec =
     μ-loop
     none-requires
     loop-holds
-    kind-at-requires
+    seen-requires
     enum-told
     read-end-requires
     returns

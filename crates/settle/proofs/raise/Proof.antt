@@ -6,7 +6,7 @@ use Rattle.settle.proofs.raise.Tie as tie
 use Rattle.settle.proofs.raise.Reads as reads
 use Rattle.settle.proofs.raise.Lts as lts
 use Rattle.settle.proofs.above.Reads as above-reads
-use Rattle.starts.proofs.larger.Reads as larger-reads
+use Rattle.least.proofs.greater.Reads as greater-reads
 
 abbrev Inv-loop : tie.InvT-loop
 Inv-loop a m best to₀ rose₀ k₀ to rose k = Raising to₀ best a m to rose k
@@ -38,11 +38,11 @@ array-read-now c = search needs
 above-requires : tie.Need-above-requires Inv-loop μ-loop
 above-requires c κs = search needs
 
-larger-requires : tie.Need-larger-requires Inv-loop μ-loop
-larger-requires c κs = search needs
+greater-requires : tie.Need-greater-requires Inv-loop μ-loop
+greater-requires c κs = search needs
 
-larger-requires-2 : tie.Need-larger-requires-2 Inv-loop μ-loop
-larger-requires-2 c κs = search needs
+greater-requires-2 : tie.Need-greater-requires-2 Inv-loop μ-loop
+greater-requires-2 c κs = search needs
 
 mul-to : tie.Need-mul-to Inv-loop μ-loop
 mul-to c = search needs
@@ -57,7 +57,7 @@ loop-less : tie.Need-loop-less Inv-loop μ-loop
 loop-less c = search needs
 
 loop-again : tie.Need-loop-again Inv-loop μ-loop
-loop-again c = let p = c .before .before .before .before .before .pre in let l = c .before .before .before .before .loop in raising-more _ _ _ _ (p .0) (p .1) (l .to) (l .rose) (l .k) (l .inv) (search needs) (p .3) (c .before .before .above .result) (c .before .larger .result) (c .larger2 .result) (c .before .before .above .ensures .0) (c .before .before .above .ensures .1) (c .before .larger .ensures) (c .larger2 .ensures)
+loop-again c = let p = c .before .before .before .before .before .pre in let l = c .before .before .before .before .loop in raising-more _ _ _ _ (p .0) (p .1) (l .to) (l .rose) (l .k) (l .inv) (search needs) (p .3) (c .before .before .above .result) (c .before .greater .result) (c .greater2 .result) (c .before .before .above .ensures .0) (c .before .before .above .ensures .1) (c .before .greater .ensures) (c .greater2 .ensures)
 
 returns : tie.Need-returns Inv-loop μ-loop
 returns c = let p = c .before .before .pre in let l = c .before .loop in raising-end _ _ _ _ (p .0) (p .1) (l .to) (l .rose) (l .k) (l .inv) (search needs)
@@ -76,8 +76,8 @@ raise-spec =
     mul-now
     array-read-now
     above-requires
-    larger-requires
-    larger-requires-2
+    greater-requires
+    greater-requires-2
     mul-to
     array-write-to
     add-k

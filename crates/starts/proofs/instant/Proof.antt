@@ -6,8 +6,8 @@ use Rattle.starts.proofs.instant.Statement.{statement}
 use Rattle.starts.proofs.instant.Tie as tie
 use Rattle.starts.proofs.instant.Reads as reads
 use Rattle.starts.proofs.instant.Lts as lts
-use Rattle.starts.proofs.larger.Reads as larger-reads
-use Rattle.starts.proofs.less.Reads as less-reads
+use Rattle.least.proofs.greater.Reads as greater-reads
+use Rattle.least.proofs.less.Reads as less-reads
 use Rattle.starts.proofs.start_at.Reads as start-at-reads
 
 abbrev Inv-loop : tie.InvT-loop
@@ -70,8 +70,8 @@ mul-so-far c = search needs
 array-read-so-far : tie.Need-array-read-so-far Inv-loop μ-loop
 array-read-so-far c = search needs
 
-larger-requires : tie.Need-larger-requires Inv-loop μ-loop
-larger-requires c κs = search needs
+greater-requires : tie.Need-greater-requires Inv-loop μ-loop
+greater-requires c κs = search needs
 
 mul-best : tie.Need-mul-best Inv-loop μ-loop
 mul-best c = search needs
@@ -115,7 +115,7 @@ instant-spec =
     less-requires
     mul-so-far
     array-read-so-far
-    larger-requires
+    greater-requires
     mul-best
     array-write-best
     add-p

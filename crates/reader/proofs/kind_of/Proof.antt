@@ -1,6 +1,6 @@
-use Rattle.plan.proofs.Places.{kind-end, kind-links-short, kind-links, kind-flow-short, kind-flow, kind-unknown}
-use Rattle.plan.proofs.kind_of.Statement.{statement}
-use Rattle.plan.proofs.kind_of.Tie as tie
+use Rattle.reader.proofs.Places.{kind-end, kind-links-short, kind-links, kind-flow-short, kind-flow, kind-unknown}
+use Rattle.reader.proofs.kind_of.Statement.{statement}
+use Rattle.reader.proofs.kind_of.Tie as tie
 
 returns : tie.Need-returns
 returns c = search kind-end

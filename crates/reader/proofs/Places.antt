@@ -8,9 +8,9 @@ use lib.ListN.{length, getD}
 use lib.Dec.{leb, ltb, eqb}
 use borrow.Author.Tests.{eq-eqb, ne-eqb, lt-ltb, le-ltb, le-leb, lt-leb, eqb-true, ltb-false, leb-false}
 use Rattle.records.specs.Kinds.{linksKind, linksBody, flowKind, flowBody, endKind}
-use Rattle.plan.specs.declared.Kind.{Kind}
-use Rattle.plan.specs.declared.Kind.the-variants.{OfLinks, OfFlow, OfEnd, OfNone}
-use Rattle.plan.specs.Reading.{kindOf, kindAt}
+use Rattle.reader.specs.declared.Kind.{Kind}
+use Rattle.reader.specs.declared.Kind.the-variants.{OfLinks, OfFlow, OfEnd, OfNone}
+use Rattle.reader.specs.Places.{kindOf, kindAt}
 
 module _ (kind left : ℕ) where
   pub kind-end : kind ≡ endKind → OfEnd ≡ kindOf kind left

@@ -1,7 +1,7 @@
 use borrow.Author.Needs.{needs}
-use Rattle.plan.proofs.Places.{at-none, at-some}
-use Rattle.plan.proofs.kind_at.Statement.{statement}
-use Rattle.plan.proofs.kind_at.Tie as tie
+use Rattle.reader.proofs.Places.{at-none, at-some}
+use Rattle.reader.proofs.kind_at.Statement.{statement}
+use Rattle.reader.proofs.kind_at.Tie as tie
 
 returns : tie.Need-returns
 returns c = search at-none
