@@ -1,0 +1,184 @@
+/* The host's two functions on plans whose answers document 01 gives. Every expected number is written out here by hand. */
+#include <stddef.h>
+#include <stdint.h>
+
+#include "kezhuvanam.h"
+
+/* Where the kit's C library is linked, there are no headers of a C library. */
+int printf(const char *format, ...);
+
+#define TWO(x) (x) / 256, (x) % 256
+#define LINKS(least, most) 0x01, TWO(least), TWO(most)
+#define FLOW(number, priority, period, jitter, deadline, length) \
+    0x02, number, priority, TWO(period), TWO(jitter), TWO(deadline), length
+#define NODES(a, b, c) a, b, c, 0, 0, 0, 0, 0
+#define COSTS(a, b, c) TWO(a), TWO(b), TWO(c), 0, 0, 0, 0, 0, 0, 0, 0, 0, 0
+#define END 0x7F
+
+/* A flow on node 1 alone. */
+#define ALONE(number, priority, period, jitter, deadline, cost) \
+    FLOW(number, priority, period, jitter, deadline, 1), NODES(1, 0, 0), COSTS(cost, 0, 0)
+#define SMALL(number) ALONE(number, 0, 1000, 0, 1000, 1)
+#define SIXTEEN                                                                                             \
+    SMALL(1), SMALL(2), SMALL(3), SMALL(4), SMALL(5), SMALL(6), SMALL(7), SMALL(8), SMALL(9), SMALL(10), \
+        SMALL(11), SMALL(12), SMALL(13), SMALL(14), SMALL(15), SMALL(16)
+
+typedef const uint8_t plan[];
+
+/* Document 01, "Plans tried by hand", by their numbers there. */
+static plan case1 = {LINKS(1, 1), END};
+static plan case2 = {LINKS(1, 1), FLOW(1, 1, 20, 0, 60, 2), NODES(1, 2, 0), COSTS(4, 4, 0), END};
+static plan case3 = {LINKS(1, 1), ALONE(1, 1, 10, 0, 60, 3), ALONE(2, 1, 20, 0, 60, 5), END};
+static plan case4 = {LINKS(1, 1), ALONE(1, 1, 10, 0, 60, 3), ALONE(2, 0, 20, 0, 60, 5), END};
+static plan case5 = {LINKS(1, 1), ALONE(1, 1, 10, 8, 60, 3), ALONE(2, 0, 20, 0, 60, 5), END};
+static plan case6 = {LINKS(1, 1), ALONE(1, 1, 100, 10, 60, 1), ALONE(2, 1, 100, 0, 60, 50), END};
+static plan case7 = {LINKS(1, 1), FLOW(1, 1, 20, 0, 60, 2), NODES(1, 2, 0), COSTS(4, 4, 0),
+                     FLOW(2, 1, 20, 0, 60, 1), NODES(2, 0, 0), COSTS(3, 0, 0), END};
+static plan case8 = {LINKS(1, 1), ALONE(1, 1, 10, 0, 60, 5), ALONE(2, 1, 10, 0, 60, 5), END};
+static plan case9 = {LINKS(1, 1), ALONE(1, 1, 10, 0, 60, 6), ALONE(2, 1, 10, 0, 60, 5), END};
+static plan case10 = {LINKS(1, 1), ALONE(1, 1, 10, 65534, 65535, 1), END};
+static plan case10_9 = {LINKS(1, 1), ALONE(1, 1, 10, 65535, 65535, 1), END};
+static plan case11 = {LINKS(1, 1), ALONE(1, 1, 10, 0, 60, 3), ALONE(2, 0, 20, 0, 8, 5), END};
+static plan case11_10 = {LINKS(1, 1), ALONE(1, 1, 10, 0, 60, 3), ALONE(2, 0, 20, 0, 7, 5), END};
+static plan case12_10 = {LINKS(1, 1), ALONE(1, 1, 10, 0, 7, 3), ALONE(2, 1, 20, 0, 60, 5), END};
+static plan case13 = {LINKS(1, 1), FLOW(1, 0, 100, 0, 60, 3), NODES(1, 2, 3), COSTS(1, 1, 1),
+                      FLOW(2, 1, 100, 0, 60, 2), NODES(1, 3, 0), COSTS(1, 1, 0), END};
+static plan case13_7 = {LINKS(1, 1), FLOW(1, 1, 100, 0, 60, 3), NODES(1, 2, 3), COSTS(1, 1, 1),
+                        FLOW(2, 1, 100, 0, 60, 2), NODES(1, 3, 0), COSTS(1, 1, 0), END};
+static plan case14 = {LINKS(1, 1), ALONE(1, 1, 10, 0, 60, 3), END};
+
+static plan last_number = {LINKS(1, 1), ALONE(255, 1, 10, 0, 60, 3), END};
+static plan sixteen = {LINKS(1, 1), SIXTEEN, END};
+
+/* Refused records: the first one's kind byte is at 5, the second's at 39, a seventeenth's at 549. */
+static plan delays_exchanged = {LINKS(2, 1), END};
+static plan number_0 = {LINKS(1, 1), ALONE(0, 1, 10, 0, 60, 3), END};
+static plan period_0 = {LINKS(1, 1), ALONE(1, 1, 10, 0, 60, 3), ALONE(2, 1, 0, 0, 60, 5), END};
+static plan node_twice = {LINKS(1, 1), FLOW(1, 1, 20, 0, 60, 2), NODES(1, 1, 0), COSTS(4, 4, 0), END};
+static plan seventeen = {LINKS(1, 1), SIXTEEN, SMALL(17), END};
+static plan no_links = {END};
+static plan not_rising = {LINKS(1, 1), ALONE(2, 1, 10, 0, 60, 3), ALONE(2, 1, 20, 0, 60, 5), END};
+static plan byte_after_end = {LINKS(1, 1), SIXTEEN, END, END};
+
+#define WHOLE(p) p, sizeof(p)
+
+static const struct {
+    const char *name;
+    const uint8_t *plan;
+    size_t len;
+    uint64_t code;
+} judged[] = {
+    {"case 1", WHOLE(case1), 0},
+    {"case 2", WHOLE(case2), 0},
+    {"case 3", WHOLE(case3), 0},
+    {"case 4", WHOLE(case4), 0},
+    {"case 5", WHOLE(case5), 0},
+    {"case 6", WHOLE(case6), 0},
+    {"case 7", WHOLE(case7), 0},
+    {"case 8", WHOLE(case8), 0},
+    {"case 9", WHOLE(case9), 8 + 256 * 1},
+    {"case 10", WHOLE(case10), 0},
+    {"case 10, J 65,535", WHOLE(case10_9), 9},
+    {"case 11, D 8", WHOLE(case11), 0},
+    {"case 11, D 7", WHOLE(case11_10), 10 + 256 * 2},
+    {"case 12", WHOLE(case12_10), 10 + 256 * 1},
+    {"case 13, second flow higher", WHOLE(case13), 0},
+    {"case 13, equal priority", WHOLE(case13_7), 7 + 256 * 2},
+    {"case 14", WHOLE(case14), 0},
+    {"flow 255", WHOLE(last_number), 0},
+    {"sixteen flows", WHOLE(sixteen), 0},
+    {"Lmin > Lmax", WHOLE(delays_exchanged), 1},
+    {"flow number 0", WHOLE(number_0), 2 + 65536 * 5},
+    {"second flow's period 0", WHOLE(period_0), 3 + 65536 * 39},
+    {"node twice", WHOLE(node_twice), 4 + 65536 * 5},
+    {"seventeenth flow", WHOLE(seventeen), 6 + 65536 * 549},
+    {"no link delays", WHOLE(no_links), 12},
+    {"numbers not rising", WHOLE(not_rising), 12 + 65536 * 39},
+    {"byte after the end", WHOLE(byte_after_end), 12 + 65536 * 550},
+    {"case 4 without its end", case4, 73, 12 + 65536 * 73},
+    {"case 4, second body short", case4, 72, 12 + 65536 * 39},
+    {"empty plan", NULL, 0, 12},
+};
+
+static const struct {
+    const char *name;
+    const uint8_t *plan;
+    size_t len;
+    uint64_t number;
+    uint64_t bound;
+} bounded[] = {
+    {"case 2", WHOLE(case2), 1, 9},
+    {"case 3", WHOLE(case3), 1, 8},
+    {"case 3", WHOLE(case3), 2, 8},
+    {"case 4", WHOLE(case4), 1, 7},
+    {"case 4", WHOLE(case4), 2, 8},
+    {"case 5", WHOLE(case5), 1, 15},
+    {"case 5", WHOLE(case5), 2, 11},
+    {"case 6", WHOLE(case6), 1, 51},
+    {"case 6", WHOLE(case6), 2, 51},
+    {"case 7", WHOLE(case7), 1, 12},
+    {"case 7", WHOLE(case7), 2, 7},
+    {"case 8", WHOLE(case8), 1, 10},
+    {"case 8", WHOLE(case8), 2, 10},
+    {"case 10", WHOLE(case10), 1, 65535},
+    {"case 14", WHOLE(case14), 1, 3},
+    {"flow 255", WHOLE(last_number), 255, 3},
+    {"sixteen flows", WHOLE(sixteen), 16, 16},
+
+    /* No such flow. Cut to eight bits, 257 would be flow 1; so would 2^32 + 1, cut to 32. */
+    {"case 1", WHOLE(case1), 1, 0},
+    {"case 4", WHOLE(case4), 3, 0},
+    {"case 4", WHOLE(case4), 255, 0},
+    {"case 4", WHOLE(case4), 0, 0},
+    {"case 4", WHOLE(case4), 256, 0},
+    {"case 4", WHOLE(case4), 257, 0},
+    {"case 4", WHOLE(case4), UINT64_C(4294967296), 0},
+    {"case 4", WHOLE(case4), UINT64_C(4294967297), 0},
+    {"case 4", WHOLE(case4), UINT64_MAX, 0},
+    {"flow 255", WHOLE(last_number), 511, 0},
+
+    /* Refused plans. */
+    {"case 9", WHOLE(case9), 1, 0},
+    {"case 10, J 65,535", WHOLE(case10_9), 1, 0},
+    {"case 11, D 7", WHOLE(case11_10), 1, 0},
+    {"case 11, D 7", WHOLE(case11_10), 2, 0},
+    {"second flow's period 0", WHOLE(period_0), 1, 0},
+    {"case 4 without its end", case4, 73, 1, 0},
+    {"empty plan", NULL, 0, 0, 0},
+    {"empty plan", NULL, 0, 1, 0},
+};
+
+#define COUNT(rows) (sizeof(rows) / sizeof(rows)[0])
+
+/* Differences found. */
+static int judge_all(void) {
+    int differences = 0;
+    for (size_t k = 0; k < COUNT(judged); k++) {
+        uint64_t code = kezhuvanam_judge(judged[k].plan, judged[k].len);
+        if (code != judged[k].code) {
+            printf("%s: judged %llu, expected %llu\n", judged[k].name, (unsigned long long)code,
+                   (unsigned long long)judged[k].code);
+            differences++;
+        }
+    }
+    return differences;
+}
+
+static int bound_all(void) {
+    int differences = 0;
+    for (size_t k = 0; k < COUNT(bounded); k++) {
+        uint64_t bound = kezhuvanam_bound(bounded[k].plan, bounded[k].len, bounded[k].number);
+        if (bound != bounded[k].bound) {
+            printf("%s, flow %llu: bound %llu, expected %llu\n", bounded[k].name, (unsigned long long)bounded[k].number,
+                   (unsigned long long)bound, (unsigned long long)bounded[k].bound);
+            differences++;
+        }
+    }
+    return differences;
+}
+
+int main(void) {
+    int differences = judge_all() + bound_all();
+    printf("host: %u calls, %d differences\n", (unsigned)(COUNT(judged) + COUNT(bounded)), differences);
+    return differences != 0;
+}
