@@ -1,2 +1,3 @@
+-- The laws of `busy`.
 pub mod Whole
 pub mod Climb

@@ -1,1 +1,2 @@
+-- The definitions of `busy`.
 pub mod Load

@@ -1,3 +1,4 @@
+-- The laws of `drafts`.
 pub mod Making
 pub mod Tables
 pub mod Holding

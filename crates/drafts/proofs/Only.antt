@@ -1,8 +1,8 @@
 -- Any two outcomes that the contract of `prepare` allows are equal, number by number. Assumes nothing.
 use mathlib.Core.Path.{_≡_, sym, _∙_}
 use mathlib.Core.List.{List}
-use mathlib.Core.Logic.{_⊎_, inl, inr}
-use Prim.Native.Nat.{ℕ, _≤_, _<_}
+use mathlib.Core.Logic.{inl, inr}
+use Prim.Native.Nat.{ℕ, _<_}
 use native.Mathlib.Omega.{arith}
 use Rattle.least.proofs.Count.{le-or-lt}
 use Rattle.rules.specs.Net.{Net}

@@ -1,2 +1,3 @@
+-- The definitions of `engine`.
 pub mod Verdicts
 pub mod Firsts

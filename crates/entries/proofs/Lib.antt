@@ -1,1 +1,2 @@
+-- The laws of `entries`.
 pub mod Sides

@@ -26,9 +26,6 @@ module _ (x y a b : ℕ) where
   pub pick-same : x ≡ y → a ≡ pick (eqb x y) a b
   pick-same e = rw (eq-eqb x y e)
 
-  pub pick-other : (x ≡ y → ⊥) → b ≡ pick (eqb x y) a b
-  pick-other d = rw (ne-eqb x y d)
-
 -- the place of a node, k as the code has it
 module _ (h : ℕ) (l : List Hop) (k : ℕ) (e : k ≡ positionOf h l) where
   pub lag-first : (m : ℕ) → k ≡ 0 → 0 ≡ pick (eqb (positionOf h l) 0) 0 m

@@ -1,3 +1,4 @@
+-- The laws of `flows`.
 pub mod Each
 pub mod Arrays
 pub mod Causes

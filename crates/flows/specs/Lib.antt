@@ -1,3 +1,4 @@
+-- The definitions of `flows`.
 pub mod Refusals
 pub mod Lists
 pub mod Tests

@@ -1,2 +1,3 @@
+-- The laws of `host`.
 pub mod Numbers
 pub mod Zero

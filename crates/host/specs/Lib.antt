@@ -1,1 +1,2 @@
+-- The definitions of `host`.
 pub mod Host

@@ -3,7 +3,6 @@ use flows::Answer;
 use flows::Asked;
 ghost use mathlib.Core.Path.{_≡_};
 ghost use Prim.Native.Nat.{_≤_};
-ghost use Rattle.plans.specs.Plans.{planAnswer};
 ghost use Rattle.host.specs.Host.{mostPlace, codeOf, boundIn, planCode, planBound};
 
 fn code(answer: Answer) -> u64

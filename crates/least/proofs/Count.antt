@@ -3,7 +3,7 @@ use mathlib.Core.Path.{_≡_, refl, ap, _∙_}
 use mathlib.Core.Bool.{Bool, true, false}
 use mathlib.Core.Logic.{_⊎_, inl, inr}
 use Prim.Native.Nat.{ℕ, _+_, _-_, _*_, _/_, _≤_, _<_}
-use native.Mathlib.Nat.{le-refl, le-trans, le-div-iff-mul-le, div-lt-iff-lt-mul, div-zero, mul-le-mul-left}
+use native.Mathlib.Nat.{le-refl, le-trans, le-div-iff-mul-le, div-lt-iff-lt-mul, div-zero}
 use native.Mathlib.Omega.{arith}
 use lib.Dec.{leb}
 use borrow.Author.Tests.{leb-true, leb-false, le-leb, lt-leb}
@@ -85,20 +85,6 @@ count-rises {a} {a′} b t h = elim (le-or-lt t 0) [
     flat : t ≤ 0 → (x : ℕ) → x / t ≡ 0
     flat z x = ap (λ s. x / s) (omega arith) ∙ div-zero x
 
-pub count-anti : (a : ℕ) {b b′ : ℕ} (t : ℕ) → 0 < t → b ≤ b′ → count a b′ t ≤ count a b t
-count-anti a {b} {b′} t p h = count-le a b′ t (count a b t) p (omega (arith, le-count a b t (count a b t) p (le-refl _)))
-
-pub count-anti-period : (a b : ℕ) {t t′ : ℕ} → 0 < t → t ≤ t′ → count a b t′ ≤ count a b t
-count-anti-period a b {t} {t′} p h =
-    count-le a b t′ (count a b t) (omega arith)
-    (omega (arith, le-count a b t (count a b t) p (le-refl _), mul-le-mul-left (count a b t) h))
-
--- subadditive
-pub count-add : (a b c t : ℕ) → 0 < t → count (a + c) b t ≤ count a b t + ceil c t
-count-add a b c t p =
-    count-le (a + c) b t (count a b t + ceil c t) p
-    (omega (arith, le-count a b t (count a b t) p (le-refl _), le-ceil c t (ceil c t) p (le-refl _)))
-
 -- Compared as differences: a − b at most c above a′ − b′.
 pub count-grows : (a b a′ b′ c t : ℕ) → 0 < t → a + b′ ≤ a′ + b + c → count a b t ≤ count a′ b′ t + ceil c t
 count-grows a b a′ b′ c t p h =
@@ -108,9 +94,6 @@ count-grows a b a′ b′ c t p h =
 -- at least one packet in a span that is not negative, at most one a tick and one
 pub count-some : (a b t : ℕ) → 0 < t → b ≤ a → 0 < count a b t
 count-some a b t p h = omega (arith, count-in a b t h)
-
-pub count-few : (a b t : ℕ) → 0 < t → count a b t ≤ a + 1
-count-few a b t p = count-le a b t (a + 1) p (omega (arith, mul-le-mul-left (a + 1) p))
 
 -- all but the first
 pub count-after : (a t : ℕ) → 0 < t → count a t t + 1 ≡ count a 0 t

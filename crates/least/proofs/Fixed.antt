@@ -15,10 +15,6 @@ least-unique {f} {w} {v} p q = omega (arith, p .lowest v (omega arith), q .lowes
 pub least-ext : {f g : ℕ → ℕ} {w : ℕ} → ((x : ℕ) → f x ≡ g x) → Least f w → Least g w
 least-ext {f} {g} {w} h p = record { fixed = sym (h w) ∙ p .fixed; lowest = λ v q. p .lowest v (omega (arith, h v)) }
 
--- a smaller function has a smaller one
-pub least-le : {f g : ℕ → ℕ} {w v : ℕ} → f v ≤ g v → Least f w → Least g v → w ≤ v
-least-le {f} {g} {w} {v} h p q = p .lowest v (omega arith)
-
 -- rising iteration: from 0, kept by each step, the least one at rest
 pub under-zero : (f : ℕ → ℕ) → Under f 0
 under-zero f = record { up = zero-le; low = λ v h. zero-le }

@@ -1,3 +1,4 @@
+-- The laws of `least`.
 pub mod Count
 pub mod Whole
 pub mod Fold

@@ -3,11 +3,11 @@ use mathlib.Core.Path.{_≡_, refl}
 use mathlib.Core.Bool.{Bool, true, false}
 use mathlib.Core.Logic.{_⊎_, inl, inr}
 use mathlib.Core.List.{List, List·Memᴰ}
-use Prim.Native.Nat.{ℕ, zero, suc, _+_, _≤_, _<_, zero-le, min}
+use Prim.Native.Nat.{ℕ, zero, suc, _+_, _≤_, _<_, zero-le}
 use native.Mathlib.Omega.{arith}
 use native.Mathlib.Nat.{le-trans, le-of-eq}
 use Rattle.least.specs.Fold.{sumOf}
-use Rattle.least.specs.Vector.{_⊑_, Risingᵛ, Leastᵛ, Underᵛ, capᵛ, settleBy}
+use Rattle.least.specs.Vector.{_⊑_, Risingᵛ, Leastᵛ, Underᵛ, settleBy}
 use Rattle.least.proofs.Count.{le-or-lt}
 use Rattle.least.proofs.Fold.{sum-le, sum-tight}
 
@@ -15,14 +15,6 @@ module _ {I : Type 0} where
   -- what is not raised, and lies below all that is not raised, is fixed
   pub least-of : {F : (I → ℕ) → I → ℕ} {S : I → ℕ} → Risingᵛ F → F S ⊑ S → ((U : I → ℕ) → F U ⊑ U → S ⊑ U) → Leastᵛ F S
   least-of {F} {S} m d l = record { fixed = λ i. omega (arith, d i, l (F S) (m (F S) S d) i); lowest = l }
-
-  pub leastᵛ-unique : {F : (I → ℕ) → I → ℕ} {S U : I → ℕ} → Leastᵛ F S → Leastᵛ F U → (i : I) → S i ≡ U i
-  leastᵛ-unique {F} {S} {U} p q i =
-      omega (arith, p .lowest U (λ j. le-of-eq (q .fixed j)) i, q .lowest S (λ j. le-of-eq (p .fixed j)) i)
-
-  -- a smaller operator has a smaller one
-  pub leastᵛ-le : {F G : (I → ℕ) → I → ℕ} {S U : I → ℕ} → F U ⊑ G U → Leastᵛ F S → Leastᵛ G U → S ⊑ U
-  leastᵛ-le {F} {G} {S} {U} h p q = p .lowest U (λ i. omega (arith, h i, q .fixed i))
 
   -- rising iteration: from zero, kept by each step, the least one at rest
   pub underᵛ-zero : (F : (I → ℕ) → I → ℕ) → Underᵛ F (λ i. 0)
@@ -63,32 +55,6 @@ module _ {I : Type 0} where
 
     pub least-exists : (U : I → ℕ) → F U ⊑ U → (S : I → ℕ) × Leastᵛ F S
     least-exists U d = exists-from U d (sumOf U places) (λ i. 0) (underᵛ-zero F) (omega arith)
-
-  -- held at H + 1
-  pub capᵛ-rising : (H : ℕ) {F : (I → ℕ) → I → ℕ} → Risingᵛ F → Risingᵛ (capᵛ H F)
-  capᵛ-rising H m S U h i = omega (arith, m S U h i)
-
-  pub capᵛ-in : {H : ℕ} {F : (I → ℕ) → I → ℕ} {S : I → ℕ} → Leastᵛ (capᵛ H F) S → ((i : I) → S i ≤ H) → Leastᵛ F S
-  capᵛ-in {H} {F} {S} p h = record {
-    fixed = λ i. omega (arith, p .fixed i, h i);
-    lowest = λ U q. p .lowest U (λ i. omega (arith, q i));
-  }
-
-  pub capᵛ-out : {H : ℕ} {F : (I → ℕ) → I → ℕ} {S : I → ℕ} → Risingᵛ F → Leastᵛ F S → ((i : I) → S i ≤ H) → Leastᵛ (capᵛ H F) S
-  capᵛ-out {H} {F} {S} m p h = record { fixed = λ i. omega (arith, p .fixed i, h i); lowest = low }
-    where
-      low : (U : I → ℕ) → capᵛ H F U ⊑ U → S ⊑ U
-      low U q i = omega (arith, p .lowest (λ j. min (U j) (S j)) down i)
-        where
-          down : F (λ j. min (U j) (S j)) ⊑ (λ j. min (U j) (S j))
-          down j = omega (
-            arith,
-            m (λ k. min (U k) (S k)) U (λ k. omega arith) j,
-            m (λ k. min (U k) (S k)) S (λ k. omega arith) j,
-            p .fixed j,
-            q j,
-            h j,
-          )
 
 -- iteration on any kind of state
 module _ {A : Type 0} (still : A → A → Bool) (step : A → A) where

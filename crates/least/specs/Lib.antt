@@ -1,3 +1,4 @@
+-- The definitions of `least`.
 pub mod Count
 pub mod Whole
 pub mod Fold

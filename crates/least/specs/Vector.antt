@@ -1,7 +1,7 @@
 -- Least fixed points of an operator on vectors: functions from an index of any kind to numbers.
 use mathlib.Core.Path.{_≡_}
 use mathlib.Core.Bool.{Bool, true, false}
-use Prim.Native.Nat.{ℕ, zero, suc, _≤_, min}
+use Prim.Native.Nat.{ℕ, zero, suc, _≤_}
 
 module _ {I : Type 0} where
   infix 50 _⊑_
@@ -18,10 +18,6 @@ module _ {I : Type 0} where
   pub record Underᵛ (F : (I → ℕ) → I → ℕ) (S : I → ℕ) : Type 0 where
     pub up : S ⊑ F S
     pub low : (U : I → ℕ) → F U ⊑ U → S ⊑ U
-
-  -- every entry held at most at H + 1
-  abbrev pub capᵛ : ℕ → ((I → ℕ) → I → ℕ) → (I → ℕ) → I → ℕ
-  capᵛ H F S i = min (suc H) (F S i)
 
 -- step by step until it is still, at most n times
 unfoldable pub settleBy : {A : Type 0} → (A → A → Bool) → (A → A) → ℕ → A → A

@@ -1,2 +1,3 @@
+-- The laws of `pairs`.
 pub mod Meeting
 pub mod Only

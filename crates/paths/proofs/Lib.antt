@@ -1,3 +1,4 @@
+-- The laws of `paths`.
 pub mod Loops
 pub mod Hops
 pub mod Places

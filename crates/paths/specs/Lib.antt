@@ -1,1 +1,2 @@
+-- The definitions of `paths`.
 pub mod Paths

@@ -1,3 +1,4 @@
+-- The laws of `plan`.
 pub mod Steps
 pub mod Puts
 pub mod Trips

@@ -1,7 +1,7 @@
 -- What is written and then read is the set that was written; what is read and then written is the bytes that were read.
 use Prim.Native.Nat.{ℕ, zero, suc, _+_, _-_, _*_, _≤_, _<_}
 use mathlib.Core.Path.{_≡_, refl, sym, ap, _∙_}
-use mathlib.Core.Bool.{Bool, true, false, cond, not, _&&_, _||_, and-false, false≢true}
+use mathlib.Core.Bool.{Bool, true, false, cond, not, _&&_, and-false, false≢true}
 use mathlib.Core.List.{List, [], _∷_, _++_, append-nil, append-assoc}
 use native.Mathlib.Numerals.{add-one}
 use native.Mathlib.Omega.{arith}
@@ -12,10 +12,10 @@ use borrow.Author.Tests.{eqb-true, leb-false, le-ltb, lt-leb, ltb-false}
 use Rattle.rules.specs.Valid.{Valid}
 use Rattle.flows.specs.declared.Flow.{Flow}
 use Rattle.flows.specs.declared.Cause.{Cause}
-use Rattle.flows.specs.declared.Cause.the-variants.{Accepted, Delays, Full, Malformed}
-use Rattle.flows.specs.Refusals.{numberOf, acceptedBy}
+use Rattle.flows.specs.declared.Cause.the-variants.{Accepted, Full, Malformed}
+use Rattle.flows.specs.Refusals.{acceptedBy}
 use Rattle.flows.specs.Lists.{mostFlows, noFlow, held, rowOf, netOf}
-use Rattle.flows.specs.Tests.{mostDelay, delayCause, flowCause}
+use Rattle.flows.specs.Tests.{delayCause, flowCause}
 use Rattle.flows.specs.WellFormed.{Each, each-none, each-more, Typed}
 use Rattle.row.specs.Rows.{lastNumber, Rising, rising-none, rising-more}
 use Rattle.records.specs.declared.Links.{Links}

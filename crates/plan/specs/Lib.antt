@@ -1,2 +1,3 @@
+-- The definitions of `plan`.
 pub mod Reading
 pub mod Writing

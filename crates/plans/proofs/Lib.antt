@@ -1,2 +1,3 @@
+-- The laws of `plans`.
 pub mod Answers
 pub mod Trips

@@ -25,7 +25,6 @@ use Rattle.engine.specs.Verdicts.{refused, given, verdictFrom, verdictOf}
 use Rattle.flows.specs.Tests.{delayCause}
 use Rattle.table.specs.Calls.{emptyTable, answered, unless, freshAnswer}
 use Rattle.table.specs.Made.{Made, by-fresh}
-use Rattle.row.specs.Sets.{Readable}
 use Rattle.table.proofs.Kept.{Right, right-of, cause-refuses, made-right}
 use Rattle.table.proofs.Sets.{right-made}
 use Rattle.plans.specs.Plans.{refusedPlan, acceptedPlan, decidedBy, setAnswer, answerTo, planAnswer, tableBytes}

@@ -1,1 +1,2 @@
+-- The definitions of `plans`.
 pub mod Plans

@@ -1,1 +1,2 @@
+-- The laws of `reader`.
 pub mod Places

@@ -1,2 +1,3 @@
+-- The definitions of `records`.
 pub mod Kinds
 pub mod Bodies

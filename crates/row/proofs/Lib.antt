@@ -1,3 +1,4 @@
+-- The laws of `row`.
 pub mod Arrays
 pub mod Parts
 pub mod Sets

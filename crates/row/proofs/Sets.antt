@@ -222,14 +222,6 @@ at-place number (f ∷ fs) d h = go (eqb (f .number) number) refl h (λ i. at-pl
     go true e i ih = eqb-true (f .number) number e
     go false e i ih = ih (omega arith)
 
-pub found-nothing : (fs : List Flow) (number : ℕ) → foundIn fs number ≡ Nothing → Lacks number fs
-unfolding foundIn
-found-nothing fs number h = go (ltb (placeOf number fs) (length fs)) refl h
-  where
-    go : (b : Bool) → ltb (placeOf number fs) (length fs) ≡ b → cond b (At (placeOf number fs)) Nothing ≡ Nothing → Lacks number fs
-    go true e i = let z : _≡_ {A = ℕ} 0 1 = cc in absurd (omega arith)
-    go false e i = lacks-all number fs (ltb-false _ _ e)
-
 pub found-flow : (fs : List Flow) (number at : ℕ) (d : Flow) → foundIn fs number ≡ At at → (at < length fs) × (getD fs at d .number ≡ number)
 unfolding foundIn
 found-flow fs number at d h = go (ltb (placeOf number fs) (length fs)) refl h

@@ -4,7 +4,7 @@ use flows::FLOWS;
 use flows::Flow;
 use flows::Row;
 ghost use mathlib.Core.Path.{_≡_};
-ghost use mathlib.Core.List.{List, [], _∷_, _++_};
+ghost use mathlib.Core.List.{List, [], _++_};
 ghost use Prim.Native.Nat.{_+_, _-_, _≤_, _<_};
 ghost use lib.ListN.{length, take, drop};
 ghost use Rattle.flows.specs.declared.Flow.{Flow};

@@ -1,20 +1,17 @@
 -- What a response bound reads: the arrival bounds of the higher and equal flows that cross, and its own if an equal flow does. Assumes nothing.
 use mathlib.Core.Path.{_≡_, refl, sym, ap, ap₂, _∙_}
-use mathlib.Core.Bool.{true}
 use mathlib.Core.Logic.{inl, inr}
-use mathlib.Core.List.{List, List·Memᴰ}
+use mathlib.Core.List.{List·Memᴰ}
 use Prim.Native.Nat.{ℕ, _+_, _*_, _≤_, _<_}
 use native.Mathlib.Omega.{arith}
 use native.Mathlib.Nat.{mul-zero}
 use lib.Dec.{eqb}
 use Rattle.least.specs.Count.{pick, count}
-use Rattle.least.specs.Fold.{sumOf}
-use Rattle.least.specs.Fixed.{Smallest}
 use Rattle.least.proofs.Count.{le-or-lt}
 use Rattle.least.proofs.Fold.{sum-ext}
-use Rattle.rules.specs.Net.{Hop, Flow, Net}
+use Rattle.rules.specs.Net.{Flow, Net}
 use Rattle.rules.specs.Formula.{Role, Own, Higher, Equal, Lower, role, prefix, firstOn, lastOn, smin, Crossing, crossings, Arrivals, weight, plusA, lessA, term1, term2, packets, others, sum}
-use Rattle.rules.specs.Meaning.{On, IsResponse}
+use Rattle.rules.specs.Meaning.{On}
 use Rattle.rules.specs.Judge.{response}
 use Rattle.rules.proofs.Grow.{slowest-prefix}
 use Rattle.rules.proofs.Busy.{Ready}

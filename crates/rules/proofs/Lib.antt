@@ -1,3 +1,4 @@
+-- The laws of `rules`.
 pub mod Path
 pub mod Grow
 pub mod Busy

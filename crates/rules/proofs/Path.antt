@@ -13,7 +13,7 @@ use Rattle.least.specs.Fold.{only, anyOf}
 use Rattle.least.specs.Starts.{Order}
 use Rattle.least.proofs.Fold.{false-true, any-at, any-found, max-at}
 use Rattle.rules.specs.Net.{Hop, Flow}
-use Rattle.rules.specs.Formula.{visits, prefix, before, lastNode, lastOn, there, slowest}
+use Rattle.rules.specs.Formula.{visits, prefix, before, lastNode, lastOn, slowest}
 use Rattle.rules.specs.Meaning.{On}
 
 -- a path visits its nodes
@@ -142,14 +142,6 @@ lastOn-cases h (k ∷ a) b = go (visits b (k .node)) (lastOn-cases (k .node) a b
 
 pub last-cases : (h : ℕ) (l b : List Hop) → (lastOn h (prefix h l) b ≡ h) ⊎ (visits (before h l) (lastOn h (prefix h l) b) ≡ true)
 last-cases h l b = elim (lastOn-cases h (prefix h l) b) [ inl e ↦ inl e | inr v ↦ prefix-cases h (lastOn h (prefix h l) b) l v ]
-
--- a cost is among those of which the greatest is taken
-pub there-at : (f : Hop → ℕ) {k : Hop} {l : List Hop} → List·Memᴰ k l → f k ≤ there f l (k .node)
-unfolding there
-there-at f {k} {l} m = rw (← own) (max-at (only (λ q. eqb (q .node) (k .node)) f) m)
-  where
-    own : only (λ q. eqb (q .node) (k .node)) f k ≡ f k
-    own = rw (eq-eqb (k .node) (k .node) refl)
 
 pub slowest-at : (P : List Hop) {k : Hop} {l : List Hop} → List·Memᴰ k l → visits P (k .node) ≡ true → k .cost ≤ slowest P l
 unfolding slowest

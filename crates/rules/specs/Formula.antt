@@ -1,6 +1,6 @@
 -- Document 01, "Reading the trajectory formula", in its order and words. Naturals only: an instant t ≥ −J is u = t + J, and a count
 -- of x = a − b is count a b T; proofs/Whole shows that nothing is lost.
-use mathlib.Core.Bool.{Bool, true, false, not}
+use mathlib.Core.Bool.{Bool, true, false}
 use mathlib.Core.List.{List, [], _∷_, map}
 use Prim.Native.Nat.{ℕ, _+_, _-_, _*_, max}
 use lib.Dec.{ltb, eqb}

@@ -1,3 +1,4 @@
+-- The definitions of `rules`.
 pub mod Net
 pub mod Formula
 pub mod Meaning

@@ -1,5 +1,5 @@
 -- Any two outcomes that the contract of `settle` allows are equal. Assumes nothing.
-use mathlib.Core.Path.{_≡_, refl, sym, _∙_}
+use mathlib.Core.Path.{_≡_, refl, sym}
 use mathlib.Core.Bool.{Bool, true, false, false≢true}
 use mathlib.Core.List.{List}
 use Prim.Native.Nat.{ℕ, _≤_, _<_}
@@ -7,7 +7,6 @@ use native.Mathlib.Omega.{arith}
 use native.Mathlib.Nat.{le-of-eq}
 use lib.ListN.{length}
 use Rattle.rules.specs.Net.{Flow, Net}
-use Rattle.rules.specs.Formula.{Key}
 use Rattle.rules.specs.Meaning.{Here}
 use Rattle.rules.specs.Valid.{Valid}
 use Rattle.rules.proofs.Busy.{Ready}

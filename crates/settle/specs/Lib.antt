@@ -1,2 +1,3 @@
+-- The definitions of `settle`.
 pub mod Good
 pub mod Turns

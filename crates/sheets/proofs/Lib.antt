@@ -1,3 +1,4 @@
+-- The laws of `sheets`.
 pub mod Places
 pub mod Link
 pub mod Whole

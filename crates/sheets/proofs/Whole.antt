@@ -9,7 +9,7 @@ use native.Mathlib.Nat.{le-refl}
 use lib.Dec.{eqb}
 use lib.ListN.{length}
 use borrow.Author.Tests.{eqb-false}
-use Rattle.least.specs.Count.{pick, count}
+use Rattle.least.specs.Count.{pick}
 use Rattle.least.specs.Fixed.{Least}
 use Rattle.least.proofs.Count.{count-after}
 use Rattle.least.proofs.Fixed.{least-ext}

@@ -1,2 +1,3 @@
+-- The definitions of `sheets`.
 pub mod Fields
 pub mod Setup

@@ -1,11 +1,10 @@
 // The sheet of a flow: what of the formula hangs neither on the instant nor on W, with the response bounds so far.
 use starts::SHEET;
 ghost use mathlib.Core.Path.{_≡_};
-ghost use Prim.Native.Nat.{_+_, _*_, _<_, _≤_};
-ghost use lib.ListN.{length};
-ghost use Rattle.starts.specs.Sheet.{mostFlows, sheetSize, values, Small};
+ghost use Prim.Native.Nat.{_+_, _*_, _<_};
+ghost use Rattle.starts.specs.Sheet.{mostFlows, sheetSize, Small};
 ghost use Rattle.starts.specs.Runs.{Low};
-ghost use Rattle.sheets.specs.Fields.{draftAt, filled, FilledUpTo, HalfSmall};
+ghost use Rattle.sheets.specs.Fields.{FilledUpTo, HalfSmall};
 
 // A draft: a sheet for each of 16 flows.
 pub const DRAFT: usize = 10496;

@@ -1,3 +1,4 @@
+-- The definitions of `starts`.
 pub mod Sheet
 pub mod Begins
 pub mod Runs

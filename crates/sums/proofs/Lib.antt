@@ -1,2 +1,3 @@
+-- The laws of `sums`.
 pub mod Shared
 pub mod Turns

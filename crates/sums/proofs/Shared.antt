@@ -9,9 +9,9 @@ use Rattle.least.specs.Count.{pick}
 use Rattle.least.specs.Fold.{sumOf, maxOf, minOf}
 use Rattle.least.proofs.Fold.{sum-ext, sum-map, max-ext, max-map}
 use Rattle.rules.specs.Net.{Hop}
-use Rattle.rules.specs.Formula.{Crossing, both, role, higherOrEqual, lower, visits, before, firstOn, lastOn, slowest, weight, least, crossings, runsAlong, along, leastCost, M, greatestCost, lowerCost, slowestNode, term4, term5}
+use Rattle.rules.specs.Formula.{Crossing, both, role, higherOrEqual, lower, visits, before, firstOn, slowest, weight, least, crossings, runsAlong, along, leastCost, M, greatestCost, lowerCost, slowestNode, term4, term5}
 use Rattle.rules.proofs.Path.{visits-member, visits-hop, before-visits}
-use Rattle.rules.proofs.Shared.{shared, visits-shared, there-shared, slowest-shared, first-of-shared, first-on-shared, last-on-shared}
+use Rattle.rules.proofs.Shared.{shared, visits-shared, there-shared, slowest-shared, first-of-shared, first-on-shared}
 use Rattle.flows.specs.declared.Flow.{Flow}
 use Rattle.flows.specs.declared.Row.{Row}
 use Rattle.flows.specs.Lists.{pathOf, flowOf, held, netOf}
@@ -67,9 +67,6 @@ module _ (row : Row) (i : Flow) (lmin lmax : ℕ) where
 
     pub first-of-whole : (j : Flow) → firstOn (crossing j .part) P ≡ firstOn (pathOf j) P
     first-of-whole j = first-of-shared (pathOf i) P within (pathOf j)
-
-    pub last-whole : (h : ℕ) (j : Flow) → lastOn h P (crossing j .part) ≡ lastOn h P (pathOf j)
-    last-whole h j = last-on-shared (pathOf i) P (pathOf j) h on
 
     pub along-whole : (j : Flow) → along (flowOf i) P (crossing j) ≡ alongOn i P j
     unfolding along runsAlong

@@ -1,1 +1,2 @@
+-- The definitions of `sums`.
 pub mod Whole

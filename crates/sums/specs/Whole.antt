@@ -2,7 +2,7 @@
 -- proofs/Shared shows that it is the same.
 use Prim.Native.Nat.{ℕ, _-_, _+_, max}
 use mathlib.Core.Bool.{Bool}
-use mathlib.Core.List.{List, map}
+use mathlib.Core.List.{List}
 use lib.Dec.{eqb}
 use Rattle.least.specs.Count.{pick}
 use Rattle.least.specs.Fold.{sumOf, maxOf, minOf}

@@ -1,29 +1,29 @@
 -- What calls keep: a table in rising number whose figures are those that the rules give for its flows. Assumes nothing.
 use Prim.Native.Nat.{ℕ, suc, _≤_}
 use mathlib.Core.Path.{_≡_, refl, sym, ap, _∙_, subst}
-use mathlib.Core.Bool.{Bool, true, false, cond, _||_}
-use mathlib.Core.List.{List, [], _∷_, map, Sublistᴰ, Sublistᴰ·slnil, Sublistᴰ·cons, Sublistᴰ·cons-cons, Sublistᴰ·refl}
+use mathlib.Core.Bool.{Bool, true, false, cond}
+use mathlib.Core.List.{List, [], _∷_, Sublistᴰ, Sublistᴰ·slnil, Sublistᴰ·cons, Sublistᴰ·cons-cons, Sublistᴰ·refl}
 use native.Mathlib.Omega.{arith}
 use lib.ListN.{length}
 use lib.Dec.{ltb, eqb}
-use borrow.Author.Tests.{lt-leb, ltb-false}
+use borrow.Author.Tests.{lt-leb}
 use Rattle.least.proofs.Fold.{sublist-map}
 use Rattle.rules.specs.Net as net
 use Rattle.rules.specs.Valid.{Valid}
 use Rattle.rules.specs.Judge.{judged}
 use Rattle.flows.specs.declared.Flow.{Flow}
 use Rattle.flows.specs.declared.Table.{Table}
-use Rattle.flows.specs.declared.Cause.the-variants.{Accepted, Delays, Crossing, NoBusyLength, Unsettled, PastDeadline}
-use Rattle.flows.specs.Refusals.{numberOf, acceptedBy}
+use Rattle.flows.specs.declared.Cause.the-variants.{Accepted, Crossing, NoBusyLength, Unsettled, PastDeadline}
+use Rattle.flows.specs.Refusals.{acceptedBy}
 use Rattle.flows.specs.Lists.{mostFlows, held, rowOf, flowOf, netFrom, netOf, tableNet}
-use Rattle.flows.specs.Tests.{mostDelay, delayCause, flowCause}
-use Rattle.flows.specs.WellFormed.{Each, each-none, Typed}
+use Rattle.flows.specs.Tests.{delayCause}
+use Rattle.flows.specs.WellFormed.{each-none, Typed}
 use Rattle.flows.proofs.Causes.{accepted-only, delays-small}
 use Rattle.flows.proofs.Passed.{well-formed}
 use Rattle.row.specs.declared.Found.{Found}
 use Rattle.row.specs.declared.Found.the-variants.{At, Nothing}
 use Rattle.row.specs.Sets.{Readable}
-use Rattle.row.specs.Rows.{foundIn, insertSorted, without, inserted, entryCause, Rising, rising-none}
+use Rattle.row.specs.Rows.{foundIn, insertSorted, without, inserted, entryCause, rising-none}
 use Rattle.row.proofs.Arrays.{held-rowOf}
 use Rattle.row.proofs.Sets.{insert-rising, without-rising, insert-each, without-each, Enters, enters}
 use Rattle.row.proofs.Valid.{row-valid}

@@ -1,3 +1,4 @@
+-- The laws of `table`.
 pub mod Nets
 pub mod Kept
 pub mod Figures

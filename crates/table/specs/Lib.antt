@@ -1,3 +1,4 @@
+-- The definitions of `table`.
 pub mod Calls
 pub mod Made
 pub mod Figured

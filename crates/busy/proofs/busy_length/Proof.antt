@@ -1,3 +1,4 @@
+-- `busy::busy_length` meets its contract.
 use Prim.Native.Nat.{_-_, _≤_}
 use borrow.Author.Needs.{needs}
 use Rattle.busy.proofs.Climb.{Climbs, climbs-start, climbs-on, climbs-rest, climbs-past}

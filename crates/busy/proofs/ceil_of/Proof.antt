@@ -1,3 +1,4 @@
+-- `busy::ceil_of` meets its contract.
 use borrow.Author.Needs.{needs}
 use Rattle.busy.proofs.Whole.{ceil-none, ceil-made, ceil-most}
 use Rattle.busy.proofs.ceil_of.Statement.{statement}

@@ -1,3 +1,4 @@
+-- `busy::load_by` meets its contract.
 use borrow.Author.Needs.{needs}
 use Rattle.sums.proofs.Turns.{pick-fails, pick-holds}
 use Rattle.busy.proofs.load_by.Statement.{statement}

@@ -1,3 +1,4 @@
+-- `busy::load_on` meets its contract.
 use Prim.Native.Nat.{_+_, _*_, _-_, _≤_}
 use mathlib.Core.Path.{_≡_}
 use lib.ListN.{drop}

@@ -1,3 +1,4 @@
+-- `busy::packets_in` meets its contract.
 use native.Mathlib.Omega.{arith}
 use borrow.Author.Needs.{needs}
 use Rattle.busy.proofs.Whole.{packets-made, packets-most}

@@ -1,3 +1,4 @@
+-- `busy::strays_from` meets its contract.
 use borrow.Author.Needs.{needs}
 use Rattle.busy.proofs.Whole.{strays-lower, strays-back}
 use Rattle.busy.proofs.strays_from.Statement.{statement}

@@ -1,5 +1,5 @@
+-- `calls::main` meets its contract.
 use borrow.Author.Needs.{needs}
-use native.Mathlib.Omega.{arith}
 use Rattle.calls.proofs.main.Statement.{statement}
 use Rattle.calls.proofs.main.Tie as tie
 use Rattle.calls.proofs.main.Reads as reads

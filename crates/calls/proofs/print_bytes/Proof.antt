@@ -1,6 +1,6 @@
+-- `calls::print_bytes` meets its contract.
 use Prim.Native.Nat.{_-_, _≤_}
 use borrow.Author.Needs.{needs}
-use native.Mathlib.Omega.{arith}
 use Rattle.calls.proofs.print_bytes.Statement.{statement}
 use Rattle.calls.proofs.print_bytes.Tie as tie
 use Rattle.calls.proofs.print_bytes.Reads as reads

@@ -1,5 +1,5 @@
+-- `corpus::main` meets its contract.
 use borrow.Author.Needs.{needs}
-use native.Mathlib.Omega.{arith}
 use Rattle.corpus.proofs.main.Statement.{statement}
 use Rattle.corpus.proofs.main.Tie as tie
 use Rattle.corpus.proofs.main.Reads as reads

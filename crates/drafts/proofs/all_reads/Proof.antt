@@ -1,3 +1,4 @@
+-- `drafts::all_reads` meets its contract.
 use Rattle.drafts.proofs.Tables.{Tabulated, table-start, table-more}
 use Rattle.drafts.specs.Reading.{readAt}
 use Rattle.flows.specs.Lists.{flowOf, held}

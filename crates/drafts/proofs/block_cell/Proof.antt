@@ -1,3 +1,4 @@
+-- `drafts::block_cell` meets its contract.
 use Rattle.drafts.proofs.Making.{block-base, block-added, block-past, block-entry, on-path}
 use borrow.Author.Needs.{needs}
 use Rattle.drafts.proofs.block_cell.Statement.{statement}

@@ -1,3 +1,4 @@
+-- `drafts::cell_at` meets its contract.
 use Rattle.drafts.proofs.Making.{cell-past, cell-end, cell-on, place-made}
 use borrow.Author.Needs.{needs}
 use Rattle.drafts.proofs.cell_at.Statement.{statement}

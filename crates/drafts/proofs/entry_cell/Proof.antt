@@ -1,3 +1,4 @@
+-- `drafts::entry_cell` meets its contract.
 use Rattle.drafts.proofs.Making.{entry-look, entry-plus, entry-less, entry-period, entry-weight, on-path}
 use borrow.Author.Needs.{needs}
 use Rattle.drafts.proofs.entry_cell.Statement.{statement}

@@ -1,3 +1,4 @@
+-- `drafts::prepare` meets its contract.
 use Prim.Native.Nat.{_-_, _≤_, _<_}
 use Rattle.drafts.proofs.Setting.{Flows, flows-start, flows-more, setup-made, draft-made}
 use borrow.Author.Needs.{needs}

@@ -1,3 +1,4 @@
+-- `drafts::read_at` meets its contract.
 use Rattle.drafts.proofs.Reading.{read-past, read-end, read-one, read-none}
 use borrow.Author.Needs.{needs}
 use Rattle.drafts.proofs.read_at.Statement.{statement}

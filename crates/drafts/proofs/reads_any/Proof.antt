@@ -1,3 +1,4 @@
+-- `drafts::reads_any` meets its contract.
 use Rattle.drafts.proofs.Reading.{any-reads, none-reads}
 use Rattle.drafts.specs.Reading.{readsOwn}
 use Rattle.paths.proofs.Loops.{any-more}

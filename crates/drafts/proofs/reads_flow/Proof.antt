@@ -1,3 +1,4 @@
+-- `drafts::reads_flow` meets its contract.
 use Rattle.drafts.proofs.Reading.{reads-itself, reads-other}
 use borrow.Author.Needs.{needs}
 use Rattle.drafts.proofs.reads_flow.Statement.{statement}

@@ -1,3 +1,4 @@
+-- `drafts::reads_of` meets its contract.
 use Rattle.drafts.proofs.Reading.{reads-of-not, reads-of-cost}
 use borrow.Author.Needs.{needs}
 use Rattle.drafts.proofs.reads_of.Statement.{statement}

@@ -1,3 +1,4 @@
+-- `drafts::reads_own` meets its contract.
 use Rattle.drafts.proofs.Reading.{reads-own-own, reads-own-higher, reads-own-equal, reads-own-lower}
 use borrow.Author.Needs.{needs}
 use Rattle.drafts.proofs.reads_own.Statement.{statement}

@@ -1,3 +1,4 @@
+-- `drafts::tabulate` meets its contract.
 use Rattle.drafts.proofs.Tables.{Cells, cells-start, cells-more, cells-are, cells-small}
 use Rattle.flows.specs.Lists.{netOf}
 use Rattle.drafts.specs.Cells.{draftSize}

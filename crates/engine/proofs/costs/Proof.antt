@@ -1,3 +1,4 @@
+-- `engine::costs` meets its contract.
 use Rattle.paths.proofs.Loops.{sum-place, sum-end}
 use Rattle.flows.specs.Lists.{pathOf}
 use Rattle.rules.specs.Formula.{least}

@@ -1,3 +1,4 @@
+-- `engine::figure` meets its contract.
 use Rattle.engine.proofs.Tally.{product-small, figure-made}
 use native.Mathlib.Omega.{arith}
 use borrow.Author.Needs.{needs}

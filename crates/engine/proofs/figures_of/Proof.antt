@@ -1,3 +1,4 @@
+-- `engine::figures_of` meets its contract.
 use Rattle.engine.proofs.Tally.{tally-end}
 use Rattle.engine.proofs.Tally.{tally-none, tally-more}
 use Rattle.engine.specs.Firsts.{FiguresUpTo}

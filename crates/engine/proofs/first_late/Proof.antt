@@ -1,3 +1,4 @@
+-- `engine::first_late` meets its contract.
 use Rattle.engine.proofs.Firsts.{Passed, passed-none, passed-more, first-here, first-none, late-at, timely-at}
 use Rattle.engine.specs.Firsts.{deadlineAt, boundAt}
 use lib.Dec.{ltb}

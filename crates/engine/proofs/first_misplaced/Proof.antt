@@ -1,3 +1,4 @@
+-- `engine::first_misplaced` meets its contract.
 use Rattle.engine.proofs.Firsts.{misplaced-at}
 use Rattle.engine.proofs.Firsts.{Passed, passed-none, passed-more, first-here, first-none}
 use Rattle.sheets.specs.Fields.{flowAt}

@@ -1,3 +1,4 @@
+-- `engine::first_overload` meets its contract.
 use Rattle.engine.proofs.Firsts.{Passed, passed-none, passed-more, first-here, first-none}
 use Rattle.starts.specs.Sheet.{mostTime, values}
 use borrow.Author.Tests.{lt-ltb, le-ltb}

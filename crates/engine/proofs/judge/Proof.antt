@@ -1,3 +1,4 @@
+-- `engine::judge` meets its contract.
 use Rattle.engine.proofs.Judging.{crossing-judged, placed-judged}
 use Rattle.flows.specs.declared.Cause.the-variants.{Crossing}
 use Rattle.engine.specs.Verdicts.{refused}

@@ -1,3 +1,4 @@
+-- `engine::judge_figures` meets its contract.
 use Rattle.engine.proofs.Laws.{late-found, none-late}
 use borrow.Author.Needs.{needs}
 use Rattle.engine.proofs.judge_figures.Statement.{statement}

@@ -1,3 +1,4 @@
+-- `engine::judge_load` meets its contract.
 use Rattle.engine.proofs.Judging.{overload-judged, unsettled-judged, figures-judged}
 use Rattle.engine.proofs.Firsts.{none-overloaded}
 use Rattle.flows.specs.declared.Cause.the-variants.{NoBusyLength}

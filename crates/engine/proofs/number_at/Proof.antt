@@ -1,3 +1,4 @@
+-- `engine::number_at` meets its contract.
 use mathlib.Core.Path.{ap}
 use borrow.Author.Needs.{needs}
 use Rattle.engine.proofs.number_at.Statement.{statement}

@@ -1,3 +1,4 @@
+-- `engine::refuse` meets its contract.
 use Rattle.engine.proofs.Laws.{refused-made}
 use borrow.Author.Needs.{needs}
 use Rattle.engine.proofs.refuse.Statement.{statement}

@@ -1,3 +1,4 @@
+-- `entries::added` meets its contract.
 use Rattle.entries.proofs.Sides.{added-made}
 use borrow.Author.Needs.{needs}
 use Rattle.entries.proofs.added.Statement.{statement}

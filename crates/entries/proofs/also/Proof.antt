@@ -1,3 +1,4 @@
+-- `entries::also` meets its contract.
 use Rattle.entries.proofs.Sides.{also-own, also-higher, also-equal, also-lower}
 use borrow.Author.Needs.{needs}
 use Rattle.entries.proofs.also.Statement.{statement}

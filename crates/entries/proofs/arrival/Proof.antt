@@ -1,3 +1,4 @@
+-- `entries::arrival` meets its contract.
 use Rattle.entries.proofs.Sides.{arrival-made}
 use borrow.Author.Needs.{needs}
 use Rattle.entries.proofs.arrival.Statement.{statement}

@@ -1,3 +1,4 @@
+-- `entries::base` meets its contract.
 use Rattle.entries.proofs.Sides.{base-made}
 use borrow.Author.Needs.{needs}
 use Rattle.entries.proofs.base.Statement.{statement}

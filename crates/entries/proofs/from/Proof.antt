@@ -1,3 +1,4 @@
+-- `entries::from` meets its contract.
 use Rattle.entries.proofs.Sides.{from-own, from-higher, from-equal, from-lower}
 use borrow.Author.Needs.{needs}
 use Rattle.entries.proofs.from.Statement.{statement}

@@ -1,3 +1,4 @@
+-- `entries::lag_at` meets its contract.
 use Rattle.entries.proofs.Sides.{lag-first, lag-later}
 use borrow.Author.Needs.{needs}
 use Rattle.entries.proofs.lag_at.Statement.{statement}

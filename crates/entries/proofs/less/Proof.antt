@@ -1,3 +1,4 @@
+-- `entries::less` meets its contract.
 use Rattle.entries.proofs.Sides.{less-own, less-higher, less-equal, less-lower}
 use borrow.Author.Needs.{needs}
 use Rattle.entries.proofs.less.Statement.{statement}

@@ -1,3 +1,4 @@
+-- `entries::links` meets its contract.
 use mathlib.Core.Path.{refl}
 use Prim.Native.Nat.{_<_}
 use Rattle.entries.proofs.Sides.{links-most}

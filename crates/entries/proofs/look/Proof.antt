@@ -1,3 +1,4 @@
+-- `entries::look` meets its contract.
 use Rattle.entries.proofs.Sides.{look-own, look-higher, look-equal, look-lower}
 use borrow.Author.Needs.{needs}
 use Rattle.entries.proofs.look.Statement.{statement}

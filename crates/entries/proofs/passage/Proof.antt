@@ -1,3 +1,4 @@
+-- `entries::passage` meets its contract.
 use Rattle.entries.proofs.Sides.{passage-made}
 use borrow.Author.Needs.{needs}
 use Rattle.entries.proofs.passage.Statement.{statement}

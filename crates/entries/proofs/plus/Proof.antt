@@ -1,3 +1,4 @@
+-- `entries::plus` meets its contract.
 use Rattle.entries.proofs.Sides.{plus-own, plus-higher, plus-equal, plus-lower}
 use borrow.Author.Needs.{needs}
 use Rattle.entries.proofs.plus.Statement.{statement}

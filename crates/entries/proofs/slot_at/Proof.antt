@@ -1,3 +1,4 @@
+-- `entries::slot_at` meets its contract.
 use Rattle.entries.proofs.Sides.{pick-same, slot-other}
 use borrow.Author.Needs.{needs}
 use Rattle.entries.proofs.slot_at.Statement.{statement}

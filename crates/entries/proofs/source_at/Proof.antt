@@ -1,3 +1,4 @@
+-- `entries::source_at` meets its contract.
 use Rattle.entries.proofs.Sides.{source-first, source-later}
 use borrow.Author.Needs.{needs}
 use Rattle.entries.proofs.source_at.Statement.{statement}

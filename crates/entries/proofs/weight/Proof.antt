@@ -1,3 +1,4 @@
+-- `entries::weight` meets its contract.
 use Rattle.entries.proofs.Sides.{weight-own, weight-higher, weight-equal, weight-lower}
 use borrow.Author.Needs.{needs}
 use Rattle.entries.proofs.weight.Statement.{statement}

@@ -1,3 +1,4 @@
+-- `flows::accepted` meets its contract.
 use borrow.Author.Needs.{needs}
 use Rattle.flows.proofs.Causes.{accepted-is}
 use Rattle.flows.proofs.accepted.Statement.{statement}

@@ -1,3 +1,4 @@
+-- `flows::delay_cause` meets its contract.
 use Rattle.flows.proofs.Causes.{delays-crossed, delays-long, delays-fit}
 use Rattle.flows.proofs.delay_cause.Statement.{statement}
 use Rattle.flows.proofs.delay_cause.Tie as tie

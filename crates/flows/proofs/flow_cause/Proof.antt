@@ -1,3 +1,4 @@
+-- `flows::flow_cause` meets its contract.
 use borrow.Author.Needs.{needs}
 use Rattle.flows.proofs.Arrays.{typed}
 use Rattle.flows.proofs.Causes.{cause-number, cause-range, cause-twice, cause-accepted}

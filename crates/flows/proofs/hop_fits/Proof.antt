@@ -1,3 +1,4 @@
+-- `flows::hop_fits` meets its contract.
 use Rattle.flows.proofs.Causes.{fits-no-node, fits-no-cost, fits-cost}
 use Rattle.flows.proofs.hop_fits.Statement.{statement}
 use Rattle.flows.proofs.hop_fits.Tie as tie

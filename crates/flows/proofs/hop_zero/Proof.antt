@@ -1,3 +1,4 @@
+-- `flows::hop_zero` meets its contract.
 use Rattle.flows.proofs.Causes.{zero-node, zero-cost}
 use Rattle.flows.proofs.hop_zero.Statement.{statement}
 use Rattle.flows.proofs.hop_zero.Tie as tie

@@ -1,3 +1,4 @@
+-- `flows::nodes_differ` meets its contract.
 use Prim.Native.Nat.{_≤_, _-_}
 use mathlib.Core.Path.{_≡_, refl}
 use lib.ListN.{drop}

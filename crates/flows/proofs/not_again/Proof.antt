@@ -1,3 +1,4 @@
+-- `flows::not_again` meets its contract.
 use Prim.Native.Nat.{_-_}
 use mathlib.Core.Path.{_≡_, refl}
 use lib.ListN.{drop}

@@ -1,3 +1,4 @@
+-- `flows::path_end` meets its contract.
 use borrow.Author.Needs.{length-unmapped, needs}
 use Rattle.flows.proofs.Arrays.{path-short, path-long}
 use Rattle.flows.proofs.path_end.Statement.{statement}

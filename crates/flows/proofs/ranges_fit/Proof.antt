@@ -1,3 +1,4 @@
+-- `flows::ranges_fit` meets its contract.
 use borrow.Author.Needs.{needs}
 use Rattle.flows.proofs.Causes.{ranges-period, ranges-deadline, ranges-empty, ranges-long, ranges-used, ranges-unused}
 use Rattle.flows.proofs.ranges_fit.Statement.{statement}

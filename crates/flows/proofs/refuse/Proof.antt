@@ -1,3 +1,4 @@
+-- `flows::refuse` meets its contract.
 use borrow.Author.Needs.{needs}
 use Rattle.flows.proofs.Causes.{refusal-made}
 use Rattle.flows.proofs.refuse.Statement.{statement}

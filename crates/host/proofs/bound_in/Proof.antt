@@ -1,5 +1,5 @@
+-- `host::bound_in` meets its contract.
 use Rattle.host.proofs.Numbers.{given-bound, refused-bound}
-use native.Mathlib.Omega.{arith}
 use borrow.Author.Needs.{needs}
 use Rattle.host.proofs.bound_in.Statement.{statement}
 use Rattle.host.proofs.bound_in.Tie as tie

@@ -1,5 +1,5 @@
+-- `host::kezhuvanam_bound` meets its contract.
 use Rattle.host.proofs.Numbers.{no-bound, bounded}
-use native.Mathlib.Omega.{arith}
 use borrow.Author.Needs.{needs}
 use Rattle.host.proofs.kezhuvanam_bound.Statement.{statement}
 use Rattle.host.proofs.kezhuvanam_bound.Tie as tie

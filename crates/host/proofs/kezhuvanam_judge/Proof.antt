@@ -1,5 +1,5 @@
+-- `host::kezhuvanam_judge` meets its contract.
 use Rattle.host.proofs.Numbers.{place-fits, coded}
-use native.Mathlib.Omega.{arith}
 use borrow.Author.Needs.{needs}
 use Rattle.host.proofs.kezhuvanam_judge.Statement.{statement}
 use Rattle.host.proofs.kezhuvanam_judge.Tie as tie

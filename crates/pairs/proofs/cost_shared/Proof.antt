@@ -1,3 +1,4 @@
+-- `pairs::cost_shared` meets its contract.
 use borrow.Author.Needs.{needs}
 use Rattle.pairs.proofs.Meeting.{cost-visited, cost-unvisited}
 use Rattle.pairs.proofs.cost_shared.Statement.{statement}

@@ -1,3 +1,4 @@
+-- `pairs::higher_or_equal` meets its contract.
 use borrow.Author.Needs.{needs}
 use Rattle.pairs.specs.declared.Side.the-variants.{Own, Higher, Equal, Lower}
 use Rattle.rules.specs.Formula.{higherOrEqual}

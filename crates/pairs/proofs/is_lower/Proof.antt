@@ -1,3 +1,4 @@
+-- `pairs::is_lower` meets its contract.
 use borrow.Author.Needs.{needs}
 use Rattle.pairs.specs.declared.Side.the-variants.{Own, Higher, Equal, Lower}
 use Rattle.rules.specs.Formula.{lower}

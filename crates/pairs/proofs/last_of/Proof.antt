@@ -1,3 +1,4 @@
+-- `pairs::last_of` meets its contract.
 use borrow.Author.Needs.{needs}
 use Rattle.pairs.proofs.Meeting.{node-visited, node-unvisited}
 use Rattle.pairs.proofs.last_of.Statement.{statement}

@@ -1,3 +1,4 @@
+-- `pairs::runs_along` meets its contract.
 use borrow.Author.Needs.{needs}
 use Rattle.pairs.proofs.Meeting.{same-node}
 use Rattle.pairs.proofs.runs_along.Statement.{statement}

@@ -1,3 +1,4 @@
+-- `pairs::side_of` meets its contract.
 use Rattle.pairs.proofs.Meeting.{side-own, side-higher, side-equal, side-lower}
 use Rattle.pairs.proofs.side_of.Statement.{statement}
 use Rattle.pairs.proofs.side_of.Tie as tie

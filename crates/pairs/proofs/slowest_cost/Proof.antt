@@ -1,3 +1,4 @@
+-- `pairs::slowest_cost` meets its contract.
 use Prim.Native.Nat.{_-_, _≤_, max}
 use mathlib.Core.Path.{_≡_}
 use native.Mathlib.Omega.{arith}

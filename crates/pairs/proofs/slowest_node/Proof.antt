@@ -1,3 +1,4 @@
+-- `pairs::slowest_node` meets its contract.
 use borrow.Author.Needs.{needs}
 use Rattle.pairs.proofs.Meeting.{slowest-found}
 use Rattle.pairs.proofs.slowest_node.Statement.{statement}

@@ -1,3 +1,4 @@
+-- `paths::cost_at` meets its contract.
 use Prim.Native.Nat.{_-_, _≤_, max}
 use mathlib.Core.Path.{_≡_}
 use native.Mathlib.Omega.{arith}

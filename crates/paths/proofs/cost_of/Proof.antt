@@ -1,3 +1,4 @@
+-- `paths::cost_of` meets its contract.
 use native.Mathlib.Omega.{arith}
 use borrow.Author.Needs.{length-unmapped}
 use Rattle.paths.proofs.Hops.{place-fits, cost-read}

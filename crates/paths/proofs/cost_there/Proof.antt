@@ -1,3 +1,4 @@
+-- `paths::cost_there` meets its contract.
 use borrow.Author.Needs.{needs}
 use Rattle.paths.proofs.Hops.{cost-here, cost-elsewhere}
 use Rattle.paths.proofs.cost_there.Statement.{statement}

@@ -1,3 +1,4 @@
+-- `paths::node_at` meets its contract.
 use borrow.Author.Needs.{length-unmapped}
 use Rattle.paths.proofs.Hops.{place-fits, node-read}
 use Rattle.paths.proofs.node_at.Statement.{statement}

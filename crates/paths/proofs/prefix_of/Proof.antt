@@ -1,3 +1,4 @@
+-- `paths::prefix_of` meets its contract.
 use borrow.Author.Needs.{needs}
 use Rattle.paths.proofs.Hops.{cut-whole, path-whole, cut-short, path-cut}
 use Rattle.paths.proofs.prefix_of.Statement.{statement}

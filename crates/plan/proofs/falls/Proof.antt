@@ -1,3 +1,4 @@
+-- `plan::falls` meets its contract.
 use Rattle.plan.proofs.Steps.{falls-zero, falls-order}
 use Rattle.plan.proofs.falls.Statement.{statement}
 use Rattle.plan.proofs.falls.Tie as tie

@@ -1,3 +1,4 @@
+-- `plan::flow_at` meets its contract.
 use borrow.Author.Needs.{needs}
 use Rattle.plan.proofs.Steps.{flow-part}
 use Rattle.plan.proofs.flow_at.Statement.{statement}

@@ -1,3 +1,4 @@
+-- `plan::put_flows` meets its contract.
 use Prim.Native.Nat.{_≤_, _-_, _+_, _*_}
 use mathlib.Core.Path.{_≡_, _∙_}
 use mathlib.Core.List.{_++_}

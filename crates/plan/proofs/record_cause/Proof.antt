@@ -1,3 +1,4 @@
+-- `plan::record_cause` meets its contract.
 use borrow.Author.Needs.{needs}
 use Rattle.plan.proofs.Steps.{record-falls, record-refused, record-full, record-accepted}
 use Rattle.plan.proofs.record_cause.Statement.{statement}

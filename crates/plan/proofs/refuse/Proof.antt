@@ -1,3 +1,4 @@
+-- `plan::refuse` meets its contract.
 use borrow.Author.Needs.{needs}
 use Rattle.plan.proofs.Steps.{refused-made}
 use Rattle.plan.proofs.refuse.Statement.{statement}

@@ -1,5 +1,5 @@
+-- `plans::judge_set` meets its contract.
 use Rattle.plans.proofs.Answers.{set-refused, set-accepted}
-use native.Mathlib.Omega.{arith}
 use borrow.Author.Needs.{needs}
 use Rattle.plans.proofs.judge_set.Statement.{statement}
 use Rattle.plans.proofs.judge_set.Tie as tie

@@ -1,5 +1,5 @@
+-- `plans::read_plan` meets its contract.
 use Rattle.plans.proofs.Answers.{plan-refused, plan-judged}
-use native.Mathlib.Omega.{arith}
 use borrow.Author.Needs.{needs}
 use Rattle.plans.proofs.read_plan.Statement.{statement}
 use Rattle.plans.proofs.read_plan.Tie as tie

@@ -1,5 +1,5 @@
+-- `plans::refuse` meets its contract.
 use Rattle.plans.proofs.Answers.{refused-made}
-use native.Mathlib.Omega.{arith}
 use borrow.Author.Needs.{needs}
 use Rattle.plans.proofs.refuse.Statement.{statement}
 use Rattle.plans.proofs.refuse.Tie as tie

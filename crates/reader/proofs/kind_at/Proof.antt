@@ -1,3 +1,4 @@
+-- `reader::kind_at` meets its contract.
 use borrow.Author.Needs.{needs}
 use Rattle.reader.proofs.Places.{at-none, at-some}
 use Rattle.reader.proofs.kind_at.Statement.{statement}

@@ -1,3 +1,4 @@
+-- `reader::kind_of` meets its contract.
 use Rattle.reader.proofs.Places.{kind-end, kind-links-short, kind-links, kind-flow-short, kind-flow, kind-unknown}
 use Rattle.reader.proofs.kind_of.Statement.{statement}
 use Rattle.reader.proofs.kind_of.Tie as tie

@@ -1,3 +1,4 @@
+-- `records::read_costs` meets its contract.
 use borrow.Author.Needs.{needs}
 use Rattle.records.proofs.Reading.{costs-made}
 use Rattle.records.proofs.read_costs.Statement.{statement}

@@ -1,3 +1,4 @@
+-- `records::read_flow` meets its contract.
 use borrow.Author.Needs.{needs}
 use Rattle.records.proofs.Reading.{flow-made}
 use Rattle.records.proofs.read_flow.Statement.{statement}

@@ -1,3 +1,4 @@
+-- `records::read_links` meets its contract.
 use borrow.Author.Needs.{needs}
 use Rattle.records.proofs.Reading.{links-made}
 use Rattle.records.proofs.read_links.Statement.{statement}

@@ -1,3 +1,4 @@
+-- `records::write_costs` meets its contract.
 use Prim.Native.Nat.{_≤_, _-_, _*_}
 use mathlib.Core.Path.{_≡_}
 use mathlib.Core.List.{_++_}

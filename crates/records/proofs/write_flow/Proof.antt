@@ -1,3 +1,4 @@
+-- `records::write_flow` meets its contract.
 use borrow.Author.Needs.{length-unmapped, needs}
 use Rattle.records.proofs.Writing.{length-flow, flow-stored}
 use Rattle.records.proofs.write_flow.Statement.{statement}

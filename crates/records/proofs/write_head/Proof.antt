@@ -1,3 +1,4 @@
+-- `records::write_head` meets its contract.
 use native.Mathlib.Omega.{arith}
 use lib.ListN.{length-set}
 use borrow.Author.Needs.{needs}

@@ -1,3 +1,4 @@
+-- `records::write_links` meets its contract.
 use borrow.Author.Needs.{needs}
 use Rattle.records.proofs.Writing.{links-stored}
 use Rattle.records.proofs.write_links.Statement.{statement}

@@ -1,3 +1,4 @@
+-- `row::append` meets its contract.
 use borrow.Author.Needs.{needs}
 use Rattle.row.proofs.Arrays.{append-full, append-stored}
 use Rattle.row.proofs.append.Statement.{statement}

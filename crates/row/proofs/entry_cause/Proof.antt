@@ -1,3 +1,4 @@
+-- `row::entry_cause` meets its contract.
 use borrow.Author.Needs.{needs}
 use Rattle.row.proofs.Arrays.{entry-refused, entry-present, entry-full, entry-accepted}
 use Rattle.row.proofs.entry_cause.Statement.{statement}

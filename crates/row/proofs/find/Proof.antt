@@ -1,3 +1,4 @@
+-- `row::find` meets its contract.
 use borrow.Author.Needs.{needs}
 use Rattle.row.proofs.Arrays.{found-at, found-none}
 use Rattle.row.proofs.find.Statement.{statement}

@@ -1,3 +1,4 @@
+-- `row::insert` meets its contract.
 use native.Mathlib.Omega.{arith}
 use borrow.Author.Needs.{needs}
 use Rattle.flows.proofs.Arrays.{length-of-map}

@@ -1,3 +1,4 @@
+-- `row::last_number` meets its contract.
 use borrow.Author.Needs.{needs}
 use Rattle.row.proofs.Arrays.{last-none, last-at}
 use Rattle.flows.proofs.Arrays.{length-of-map}

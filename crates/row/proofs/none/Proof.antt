@@ -1,3 +1,4 @@
+-- `row::none` meets its contract.
 use borrow.Author.Needs.{needs}
 use Rattle.row.proofs.Arrays.{none-row}
 use Rattle.row.proofs.none.Statement.{statement}

@@ -1,3 +1,4 @@
+-- `row::remove` meets its contract.
 use borrow.Author.Needs.{needs}
 use Rattle.flows.proofs.Arrays.{length-of-map}
 use Rattle.row.proofs.Parts.{remove-made}

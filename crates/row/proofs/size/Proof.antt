@@ -1,3 +1,4 @@
+-- `row::size` meets its contract.
 use borrow.Author.Needs.{needs}
 use Rattle.row.proofs.Arrays.{size-all, size-count}
 use Rattle.flows.proofs.Arrays.{length-of-map}

@@ -1,3 +1,4 @@
+-- `settle::choose` meets its contract.
 use Rattle.settle.proofs.Turns.{chosen-start, chosen-end}
 use Rattle.settle.specs.Turns.{ChosenIs}
 use Prim.Native.Nat.{_-_}

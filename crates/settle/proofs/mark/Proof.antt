@@ -1,3 +1,4 @@
+-- `settle::mark` meets its contract.
 use Rattle.settle.proofs.Turns.{Marking, marking-start, marking-more, marking-end}
 use Rattle.starts.specs.Sheet.{mostFlows}
 use Prim.Native.Nat.{_-_}

@@ -1,3 +1,4 @@
+-- `settle::prefer` meets its contract.
 use Rattle.settle.proofs.Turns.{chosen-unmarked, chosen-next, chosen-still}
 use borrow.Author.Needs.{needs}
 use Rattle.settle.proofs.prefer.Statement.{statement}

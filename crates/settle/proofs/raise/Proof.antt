@@ -1,3 +1,4 @@
+-- `settle::raise` meets its contract.
 use Rattle.settle.proofs.Turns.{Raising, raising-start, raising-more, raising-end}
 use Prim.Native.Nat.{_-_}
 use borrow.Author.Needs.{needs}

@@ -1,3 +1,4 @@
+-- `settle::settle` meets its contract.
 use Rattle.settle.proofs.Rest.{Settling, settling-start, settling-past, settling-more, settling-end}
 use Rattle.settle.specs.Turns.{left}
 use borrow.Author.Needs.{needs}

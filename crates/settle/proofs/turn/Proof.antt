@@ -1,3 +1,4 @@
+-- `settle::turn` meets its contract.
 use Rattle.settle.proofs.Work.{unmarked-fair, turn-past, turn-still, turn-raised, raised-fair}
 use borrow.Author.Needs.{needs}
 use Rattle.settle.proofs.turn.Statement.{statement}

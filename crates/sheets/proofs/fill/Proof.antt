@@ -1,3 +1,4 @@
+-- `sheets::fill` meets its contract.
 use Rattle.sheets.specs.Fields.{draftAt}
 use Rattle.sheets.proofs.Filling.{Filling, filling-start, filling-more}
 use Rattle.starts.specs.Sheet.{sheetSize}

@@ -1,6 +1,6 @@
+-- `show::print_table` meets its contract.
 use Prim.Native.Nat.{_-_, _≤_}
 use borrow.Author.Needs.{needs}
-use native.Mathlib.Omega.{arith}
 use Rattle.show.proofs.print_table.Statement.{statement}
 use Rattle.show.proofs.print_table.Tie as tie
 use Rattle.show.proofs.print_table.Reads as reads

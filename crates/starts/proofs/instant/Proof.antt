@@ -1,3 +1,4 @@
+-- `starts::instant` meets its contract.
 use Rattle.starts.proofs.Nodes.{Going, going-start, first-set, going-past, begin-small, going-more, going-end}
 use Prim.Native.Nat.{_-_}
 use borrow.Author.Needs.{needs}

@@ -1,3 +1,4 @@
+-- `starts::responses` meets its contract.
 use Rattle.starts.proofs.Tries.{Tried, tried-none, tried-past, tried-more, tried-all}
 use Prim.Native.Nat.{_-_}
 use borrow.Author.Needs.{needs}

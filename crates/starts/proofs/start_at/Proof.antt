@@ -1,3 +1,4 @@
+-- `starts::start_at` meets its contract.
 use Rattle.starts.proofs.Climb.{Kept, Climbs, kept-set, slots-small, climbs-more, climbs-at, climbs-past}
 use Rattle.starts.specs.Sheet.{mostTime, instantSlot, values, added, Small}
 use Prim.Native.Nat.{_+_, _-_, _*_, _<_}

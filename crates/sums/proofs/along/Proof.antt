@@ -1,3 +1,4 @@
+-- `sums::along` meets its contract.
 use borrow.Author.Needs.{needs}
 use Rattle.sums.proofs.Turns.{both-fails, both-holds}
 use Rattle.sums.proofs.along.Statement.{statement}

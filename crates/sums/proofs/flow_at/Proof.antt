@@ -1,3 +1,4 @@
+-- `sums::flow_at` meets its contract.
 use native.Mathlib.Omega.{arith}
 use Rattle.flows.proofs.Arrays.{length-of-map}
 use Rattle.sums.proofs.Turns.{place-held, flow-held}

@@ -1,3 +1,4 @@
+-- `sums::greatest_by` meets its contract.
 use borrow.Author.Needs.{needs}
 use Rattle.sums.proofs.Turns.{pick-fails, pick-holds}
 use Rattle.sums.proofs.greatest_by.Statement.{statement}

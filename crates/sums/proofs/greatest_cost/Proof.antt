@@ -1,3 +1,4 @@
+-- `sums::greatest_cost` meets its contract.
 use Prim.Native.Nat.{_-_, _≤_, max}
 use mathlib.Core.Path.{_≡_}
 use lib.ListN.{drop}

@@ -1,3 +1,4 @@
+-- `sums::least_by` meets its contract.
 use borrow.Author.Needs.{needs}
 use Rattle.sums.proofs.Turns.{least-apart, least-unvisited, least-visited}
 use Rattle.sums.proofs.least_by.Statement.{statement}

@@ -1,3 +1,4 @@
+-- `sums::least_cost` meets its contract.
 use Prim.Native.Nat.{_-_, _≤_, min}
 use mathlib.Core.Path.{_≡_}
 use lib.ListN.{drop}

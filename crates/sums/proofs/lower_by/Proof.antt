@@ -1,3 +1,4 @@
+-- `sums::lower_by` meets its contract.
 use borrow.Author.Needs.{needs}
 use Rattle.sums.proofs.Turns.{pick-fails, pick-holds}
 use Rattle.sums.proofs.lower_by.Statement.{statement}

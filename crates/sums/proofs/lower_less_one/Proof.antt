@@ -1,3 +1,4 @@
+-- `sums::lower_less_one` meets its contract.
 use Prim.Native.Nat.{_-_, _≤_, max}
 use mathlib.Core.Path.{_≡_, refl}
 use lib.ListN.{drop}

@@ -1,3 +1,4 @@
+-- `sums::term4` meets its contract.
 use borrow.Author.Needs.{needs}
 use Rattle.sums.proofs.Turns.{term4-made}
 use Rattle.sums.proofs.term4.Statement.{statement}

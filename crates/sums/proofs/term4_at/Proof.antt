@@ -1,3 +1,4 @@
+-- `sums::term4_at` meets its contract.
 use borrow.Author.Needs.{needs}
 use Rattle.sums.proofs.Turns.{term4-slowest, term4-other}
 use Rattle.sums.proofs.term4_at.Statement.{statement}

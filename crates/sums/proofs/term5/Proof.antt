@@ -1,3 +1,4 @@
+-- `sums::term5` meets its contract.
 use borrow.Author.Needs.{needs}
 use Rattle.sums.proofs.Turns.{term5-made}
 use Rattle.sums.proofs.term5.Statement.{statement}

@@ -1,3 +1,4 @@
+-- `table::admit` meets its contract.
 use Rattle.table.proofs.Ways.{admit-refused, admit-judged}
 use borrow.Author.Needs.{needs}
 use Rattle.table.proofs.admit.Statement.{statement}

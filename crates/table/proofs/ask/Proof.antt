@@ -1,3 +1,4 @@
+-- `table::ask` meets its contract.
 use Prim.Native.Nat.{_<_}
 use Rattle.flows.proofs.Arrays.{length-of-map}
 use Rattle.table.proofs.Ways.{ask-absent, ask-within, ask-present}

@@ -1,3 +1,4 @@
+-- `table::decide` meets its contract.
 use Rattle.table.proofs.Ways.{decided-refused, decided-accepted}
 use borrow.Author.Needs.{needs}
 use Rattle.table.proofs.decide.Statement.{statement}

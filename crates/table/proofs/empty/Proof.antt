@@ -1,3 +1,4 @@
+-- `table::empty` meets its contract.
 use Rattle.table.proofs.Ways.{empty-made}
 use borrow.Author.Needs.{needs}
 use Rattle.table.proofs.empty.Statement.{statement}

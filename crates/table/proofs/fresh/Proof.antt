@@ -1,3 +1,4 @@
+-- `table::fresh` meets its contract.
 use Rattle.table.proofs.Ways.{fresh-refused, fresh-accepted}
 use borrow.Author.Needs.{needs}
 use Rattle.table.proofs.fresh.Statement.{statement}

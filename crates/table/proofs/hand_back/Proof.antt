@@ -1,3 +1,4 @@
+-- `table::hand_back` meets its contract.
 use Rattle.table.proofs.Ways.{handed-back}
 use Rattle.table.proofs.hand_back.Statement.{statement}
 use Rattle.table.proofs.hand_back.Tie as tie

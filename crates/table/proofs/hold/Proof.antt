@@ -1,3 +1,4 @@
+-- `table::hold` meets its contract.
 use Rattle.table.proofs.Ways.{held-by}
 use Rattle.table.proofs.hold.Statement.{statement}
 use Rattle.table.proofs.hold.Tie as tie

@@ -1,3 +1,4 @@
+-- `table::withdraw` meets its contract.
 use Rattle.table.proofs.Ways.{withdraw-absent, withdraw-judged}
 use borrow.Author.Needs.{needs}
 use Rattle.table.proofs.withdraw.Statement.{statement}
