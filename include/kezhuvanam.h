@@ -1,6 +1,6 @@
 /* Kezhuvanam: judges plans of flows in a hall's network.
 
-   Link with libhost.a (x86-64), which needs no other library. Both functions read the len bytes at plan and nothing else,
+   Link with libhost.a (x86-64), which needs memcpy and memset and nothing else. Both functions read the len bytes at plan and nothing else,
    keep nothing between calls, allocate nothing, and may be called from several threads. plan may be NULL if len is 0. */
 #ifndef KEZHUVANAM_H
 #define KEZHUVANAM_H
