@@ -1,4 +1,5 @@
-//! The proved library against a plain program of the same algorithm, on fixed plans, both in one run.
+//! The proved library against a plain program of the same algorithm, on fixed plans, both in one run. With an argument: on the plans whose
+//! names hold it.
 mod plain;
 mod plans;
 
@@ -36,8 +37,9 @@ fn time(f: fn(&[u8]) -> u64, plan: &[u8]) -> Duration {
 }
 
 fn main() {
+    let part = std::env::args().nth(1).unwrap_or_default();
     println!("plan | answer | instants | sums | turns | proved | plain | ratio");
-    for (name, plan) in plans::all() {
+    for (name, plan) in plans::all().into_iter().filter(|p| p.0.contains(&part)) {
         let mut counts = plain::Counts::default();
         let answer = plain::judge(&plain::read(&plan), &mut counts);
         assert_eq!(answer, proved(&plan), "{name}");

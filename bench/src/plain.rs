@@ -336,6 +336,12 @@ fn responses(
     Some(best)
 }
 
+/// Whether b, after c, is more urgent, or as urgent and before it in the round that begins after the last.
+fn comes_before(set: &Set, last: usize, c: usize, b: usize) -> bool {
+    let (old, new) = (set.flows[c].priority, set.flows[b].priority);
+    old < new || old == new && c <= last && last < b
+}
+
 /// 0 for an accepted set, otherwise number + 256 × flow; 7 is not tested.
 pub fn judge(set: &Set, counts: &mut Counts) -> u64 {
     let n = set.flows.len();
@@ -371,16 +377,16 @@ pub fn judge(set: &Set, counts: &mut Counts) -> u64 {
     }
     let mut replies = [0u64; 256];
     let mut marks = [true; FLOWS];
+    let mut last = n;
     loop {
         let mut chosen = None;
         for b in 0..n {
-            if marks[b]
-                && chosen.is_none_or(|c: usize| set.flows[c].priority < set.flows[b].priority)
-            {
+            if marks[b] && chosen.is_none_or(|c: usize| comes_before(set, last, c, b)) {
                 chosen = Some(b);
             }
         }
         let Some(a) = chosen else { break };
+        last = a;
         counts.turns += 1;
         marks[a] = false;
         let m = set.flows[a].length;

@@ -6,7 +6,7 @@ use Prim.Native.Nat.{ℕ, _<_}
 use native.Mathlib.Omega.{arith}
 use Rattle.least.proofs.Count.{le-or-lt}
 use Rattle.rules.specs.Net.{Net}
-use Rattle.starts.specs.Sheet.{values}
+use Rattle.starts.specs.Sheet.{mostFlows, values}
 use Rattle.drafts.specs.declared.Draft.{Draft}
 use Rattle.drafts.specs.Cells.{draftSize}
 use Rattle.drafts.specs.Whole.{EachOf, DraftOf}
@@ -14,9 +14,9 @@ use Rattle.drafts.specs.Whole.{EachOf, DraftOf}
 abbrev Alike : ℕ → List ℕ → List ℕ → Type 0
 Alike size l l′ = (k : ℕ) → k < size → values l k ≡ values l′ k
 
-each-one : (v : ℕ → ℕ) (n n′ : ℕ) → n ≡ n′ → (l l′ : List ℕ) → EachOf v n l → EachOf v n′ l′ → (a : ℕ) → values l a ≡ values l′ a
-each-one v n n′ e l l′ p q a = elim (le-or-lt n a) [
-  | inl h ↦ p .rest a h ∙ sym (q .rest a (omega arith))
+each-one : (v : ℕ → ℕ) (n n′ : ℕ) → n ≡ n′ → (l l′ : List ℕ) → EachOf v n l → EachOf v n′ l′ → (a : ℕ) → a < mostFlows → values l a ≡ values l′ a
+each-one v n n′ e l l′ p q a m = elim (le-or-lt n a) [
+  | inl h ↦ p .rest a h m ∙ sym (q .rest a (omega arith) m)
   | inr h ↦ p .flows a h ∙ sym (q .flows a (omega arith))
 ]
 
@@ -31,11 +31,11 @@ module _ (N : Net) (d d′ : Draft) (p : DraftOf N d) (q : DraftOf N d′) where
     λ k h. p .cells .second k h ∙ sym (q .cells .second k h),
   )
 
-  pub flows-one : (a : ℕ) → (values (d .lengths) a ≡ values (d′ .lengths) a) × (values (d .busies) a ≡ values (d′ .busies) a) × (values (d .priorities) a ≡ values (d′ .priorities) a)
-  flows-one a = (
-    each-one _ _ _ count-one (d .lengths) (d′ .lengths) (p .lengths) (q .lengths) a,
-    each-one _ _ _ count-one (d .busies) (d′ .busies) (p .busies) (q .busies) a,
-    each-one _ _ _ count-one (d .priorities) (d′ .priorities) (p .priorities) (q .priorities) a,
+  pub flows-one : Alike mostFlows (d .lengths) (d′ .lengths) × Alike mostFlows (d .busies) (d′ .busies) × Alike mostFlows (d .priorities) (d′ .priorities)
+  flows-one = (
+    each-one _ _ _ count-one (d .lengths) (d′ .lengths) (p .lengths) (q .lengths),
+    each-one _ _ _ count-one (d .busies) (d′ .busies) (p .busies) (q .busies),
+    each-one _ _ _ count-one (d .priorities) (d′ .priorities) (p .priorities) (q .priorities),
   )
 
   pub reads-one : Alike 256 (d .reads) (d′ .reads)

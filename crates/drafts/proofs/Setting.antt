@@ -29,12 +29,16 @@ module _ (row : Row) (lmin lmax : ℕ) where
 
   -- what is told of each of the first k flows
   pub record Flows (lengths busies priorities : List ℕ) (k : ℕ) : Type 0 where
-    pub long : Tabulated (λ a. length (flowAt N a .path)) mostFlows mostNodes lengths k
-    pub busy : Tabulated (λ a. busyLength N (flowAt N a)) mostFlows 65536 busies k
-    pub priority : Tabulated (λ a. flowAt N a .priority) mostFlows 255 priorities k
+    pub long : Tabulated (λ a. length (flowAt N a .path)) mostFlows mostNodes 0 lengths k
+    pub busy : Tabulated (λ a. busyLength N (flowAt N a)) mostFlows 65536 0 busies k
+    pub priority : Tabulated (λ a. flowAt N a .priority) mostFlows 255 0 priorities k
 
   pub flows-start : Flows (replicate mostFlows 0) (replicate mostFlows 0) (replicate mostFlows 0) 0
-  flows-start = record { long = table-start _ _ _; busy = table-start _ _ _; priority = table-start _ _ _ }
+  flows-start = record {
+    long = table-start _ _ _ _ (omega arith);
+    busy = table-start _ _ _ _ (omega arith);
+    priority = table-start _ _ _ _ (omega arith);
+  }
 
   pub flows-more : (lengths busies priorities : List ℕ) (k : ℕ) → Flows lengths busies priorities k → k < mostFlows →
       (i : Flow) → i ≡ getD (held row) k noFlow → (m b : ℕ) → m ≡ length (pathOf i) → m ≤ mostNodes →
@@ -43,9 +47,9 @@ module _ (row : Row) (lmin lmax : ℕ) where
   flows-more lengths busies priorities k t h i e m b em lm eb lb lp =
       let f : flowOf i ≡ flowAt N k = flow-is row k i e in
       record {
-        long = table-more _ _ _ lengths k m (t .long) h (em ∙ ap (λ (i : net.Flow). length (i .path)) f) lm;
-        busy = table-more _ _ _ busies k b (t .busy) h (eb lmin lmax ∙ ap (busyLength N) f) lb;
-        priority = table-more _ _ _ priorities k (i .priority) (t .priority) h (ap (λ (i : net.Flow). i .priority) f) (omega arith);
+        long = table-more _ _ _ _ lengths k m (t .long) h (em ∙ ap (λ (i : net.Flow). length (i .path)) f) lm;
+        busy = table-more _ _ _ _ busies k b (t .busy) h (eb lmin lmax ∙ ap (busyLength N) f) lb;
+        priority = table-more _ _ _ _ priorities k (i .priority) (t .priority) h (ap (λ (i : net.Flow). i .priority) f) (omega arith);
       }
 
   pub setup-made : (nums from also lengths busies priorities reads : List ℕ) (n k : ℕ) → n ≡ length (held row) → n ≤ mostFlows → n ≤ k →
@@ -64,16 +68,16 @@ module _ (row : Row) (lmin lmax : ℕ) where
         unread = λ a b h g e. not-read N val a b (omega arith) (omega arith) (omega arith) (sym (read (b * mostFlows + a) (omega arith)) ∙ e);
       }
 
-  each-of : (v : ℕ → ℕ) (size most : ℕ) (l : List ℕ) (n k : ℕ) → Tabulated v size most l k → n ≡ k → EachOf v n l
-  each-of v size most l n k t e = record { flows = λ a h. t .done a (omega arith); rest = λ a h. t .rest a (omega arith) }
+  each-of : (v : ℕ → ℕ) (most : ℕ) (l : List ℕ) (n k : ℕ) → Tabulated v mostFlows most 0 l k → n ≡ k → EachOf v n l
+  each-of v most l n k t e = record { flows = λ a h. t .done a (omega arith); rest = λ a h q. t .rest a (omega arith) q }
 
   pub draft-made : (d : Draft) (k : ℕ) → d .n ≡ length (held row) → d .n ≡ k → CellsAre N (d .nums) (d .from) (d .also) →
       Flows (d .lengths) (d .busies) (d .priorities) k → ((j : ℕ) → j < 256 → values (d .reads) j ≡ readAt (map flowOf (held row)) j) → DraftOf N d
   draft-made d k en ek cells told read = record {
     count = size-is row (d .n) en;
     cells = cells;
-    lengths = each-of _ _ _ (d .lengths) (d .n) k (told .long) ek;
-    busies = each-of _ _ _ (d .busies) (d .n) k (told .busy) ek;
-    priorities = each-of _ _ _ (d .priorities) (d .n) k (told .priority) ek;
+    lengths = each-of _ _ (d .lengths) (d .n) k (told .long) ek;
+    busies = each-of _ _ (d .busies) (d .n) k (told .busy) ek;
+    priorities = each-of _ _ (d .priorities) (d .n) k (told .priority) ek;
     reads = read;
   }

@@ -5,16 +5,16 @@ use mathlib.Core.List.{List}
 use lib.ListN.{length}
 use Rattle.rules.specs.Net.{Net}
 use Rattle.rules.specs.Judge.{busyLength}
-use Rattle.starts.specs.Sheet.{values}
+use Rattle.starts.specs.Sheet.{mostFlows, values}
 use Rattle.sheets.specs.Fields.{flowAt}
 use Rattle.drafts.specs.declared.Draft.{Draft}
 use Rattle.drafts.specs.Cells.{CellsAre}
 use Rattle.drafts.specs.Reading.{readAt}
 
--- a number for each of n flows, and zeros behind
+-- a number for each of n flows, and zeros for those that are not there
 pub record EachOf (v : ℕ → ℕ) (n : ℕ) (l : List ℕ) : Type 0 where
   pub flows : (a : ℕ) → a < n → values l a ≡ v a
-  pub rest : (a : ℕ) → n ≤ a → values l a ≡ 0
+  pub rest : (a : ℕ) → n ≤ a → a < mostFlows → values l a ≡ 0
 
 -- every number of the draft of a net
 pub record DraftOf (N : Net) (d : Draft) : Type 0 where

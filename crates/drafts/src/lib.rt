@@ -113,15 +113,17 @@ struct Numbers {
     also: [u8; DRAFT],
 }
 
+// The cells of flows that are not there are as they stand at first.
 fn tabulate(row: Row, lmin: u16, lmax: u16) -> Numbers
     ensures { λ r. ⌜ CellsAre (netOf lmin lmax row) (r .nums) (r .from) (r .also) ⌝ }
     ensures { λ r. ⌜ HalfSmall (r .nums) ⌝ }
 {
     let mut nums = [0u64; DRAFT];
-    let mut from = [0u8; DRAFT];
-    let mut also = [0u8; DRAFT];
+    let mut from = [entries::NOWHERE; DRAFT];
+    let mut also = [entries::NOWHERE; DRAFT];
+    let end = row::size(row) * SHEET;
     let mut k: usize = 0;
-    while k < DRAFT {
+    while k < end {
         let cell = cell_at(row, lmin, lmax, k);
         nums[k] = cell.number;
         from[k] = cell.first;

@@ -13,20 +13,10 @@ use Rattle.rules.proofs.Busy.{Ready}
 use Rattle.starts.specs.Sheet.{mostFlows, values}
 use Rattle.sheets.specs.Fields.{noPlace}
 use Rattle.sheets.specs.Setup.{Setup}
-use Rattle.sheets.proofs.Filling.{zeros}
+use Rattle.sheets.proofs.Filling.{same-at, same-low, zeros}
 use Rattle.settle.specs.Good.{Good, Outcome}
 use Rattle.settle.specs.Turns.{ChosenIs, Fair, Keeps, TurnIs, SettleIs}
 use Rattle.settle.proofs.Steps.{good-start, good-end}
-
-ones : (n b : ℕ) → b < n → values (replicate n 1) b ≡ 1
-ones zero b h = absurd (omega arith)
-ones (suc n) zero h = refl
-ones (suc n) (suc b) h = ones n b (omega arith)
-
-flag : (n b : ℕ) → values (replicate n 1) b ≤ 1
-flag zero b = omega arith
-flag (suc n) zero = omega arith
-flag (suc n) (suc b) = flag n b
 
 module _ (nums from also lengths busies reads : List ℕ) (n : ℕ) where
   pub record Settling (replies marks : List ℕ) (past : Bool) (a : ℕ) : Type 0 where
@@ -40,13 +30,13 @@ module _ (nums from also lengths busies reads : List ℕ) (n : ℕ) where
     fair = record {
       low = λ x. omega (arith, zeros 256 x);
       none = zeros 256 noPlace;
-      flags = flag mostFlows;
+      flags = same-low 1 mostFlows;
       long = length-replicate {A = ℕ} mostFlows 1;
     };
     clear = refl;
     chosen = chosen;
     good = λ N val ready setup.
-        good-start N val ready (replicate 256 0) (replicate mostFlows 1) (zeros 256) (λ b h z. omega (arith, setup .count, ones mostFlows b (omega (arith, setup .count))));
+        good-start N val ready (replicate 256 0) (replicate mostFlows 1) (zeros 256) (λ b h z. omega (arith, setup .count, same-at 1 mostFlows b (omega (arith, setup .count))));
   }
 
   module _ (replies marks : List ℕ) (past : Bool) (a : ℕ) (s : Settling replies marks past a) (past′ : Bool) (replies′ marks′ : List ℕ)

@@ -18,7 +18,7 @@ use Rattle.rules.specs.Meaning.{Here}
 use Rattle.rules.specs.Valid.{Valid}
 use Rattle.rules.specs.Judge.{busyLength}
 use Rattle.rules.proofs.Busy.{Ready}
-use Rattle.starts.specs.Sheet.{mostFlows, mostNodes, mostTime, sheetSize, values, Small}
+use Rattle.starts.specs.Sheet.{mostFlows, mostNodes, mostTime, blockSize, values, Small}
 use Rattle.starts.specs.Runs.{ResponsesAre}
 use Rattle.starts.proofs.Nodes.{set-cases}
 use Rattle.sheets.specs.Fields.{flowAt, noPlace, FilledUpTo, SheetIs}
@@ -63,14 +63,16 @@ module _ (replies marks : List ℕ) (fair : Fair replies marks) (a : ℕ) (first
       go false e = inr (sym (getD-set-other marks a b 0 0 (eqb-false b a e)) ∙ z)
 
 module _ (nums from also lengths busies reads : List ℕ) (n : ℕ) (replies marks : List ℕ) (a : ℕ) (on : a < n) (most : n ≤ mostFlows)
-    (fair : Fair replies marks) (sheet : List ℕ) (full : FilledUpTo nums from also replies a sheetSize sheet) (small : Small sheet)
+    (fair : Fair replies marks) (sheet : List ℕ) (full : FilledUpTo nums from also replies a (values lengths a * blockSize) sheet) (small : Small sheet)
     (past : Bool) (best : List ℕ) (run : ResponsesAre sheet n (values lengths a) (values busies a) past best) where
   module _ (N : Net) (val : Valid N) (ready : (i : Flow) → Here N i → Ready N i) (setup : Setup N nums from also lengths busies reads n) where
     here : a < length (N .flows)
     here = omega (arith, setup .count)
 
     its-sheet : SheetIs N a (values replies) sheet
-    its-sheet = drafted N nums from also replies (setup .draft) (fair .none) a here (omega (arith, setup .count)) (setup .short a on) sheet full
+    its-sheet =
+        drafted N nums from also replies (setup .draft) (fair .none) a here (omega (arith, setup .count)) sheet
+        (λ k h. full k (omega (arith, setup .long a on)))
 
     its-run : ResponsesAre sheet (length (N .flows)) (length (flowAt N a .path)) (busyLength N (flowAt N a)) past best
     its-run =

@@ -1,6 +1,7 @@
 // The least settled arrival bounds: response bounds raised from zero, flow by flow, until each is up to date.
 use sheets::DRAFT;
 use sheets::PLACES;
+use starts::BLOCK;
 use starts::NODES;
 ghost use mathlib.Core.Path.{_≡_};
 ghost use Prim.Native.Nat.{_+_, _*_, _<_, _≤_};
@@ -70,10 +71,19 @@ fn mark(marks: [u64; FLOWS], reads: &[u64; PLACES], a: usize) -> [u64; FLOWS]
     to
 }
 
-// Flow b, if it is marked and more urgent than the one chosen; n stands for none.
+// Whether b, which is after chosen, comes before it in the round that begins after last.
+fn comes_next(last: usize, chosen: usize, b: usize) -> bool {
+    if last < chosen {
+        return false;
+    }
+    last < b
+}
+
+// Flow b, if it is marked and more urgent than the one chosen, or as urgent and next in the round; n stands for none.
 fn prefer<'a>(
     marks: &'a [u64; FLOWS],
     priorities: &'a [u64; FLOWS],
+    last: usize,
     chosen: usize,
     b: usize,
     n: usize,
@@ -90,18 +100,24 @@ fn prefer<'a>(
     if priorities[chosen] < priorities[b] {
         return b;
     }
+    if priorities[b] < priorities[chosen] {
+        return chosen;
+    }
+    if comes_next(last, chosen, b) {
+        return b;
+    }
     chosen
 }
 
-// A marked flow of greatest priority; n if none is marked.
-fn choose<'a>(marks: &'a [u64; FLOWS], priorities: &'a [u64; FLOWS], n: usize) -> usize
+// A marked flow of greatest priority, of several the next after last, so that each gets its turn; n if none is marked.
+fn choose<'a>(marks: &'a [u64; FLOWS], priorities: &'a [u64; FLOWS], last: usize, n: usize) -> usize
     requires { ⌜ n ≤ mostFlows ⌝ }
     ensures { λ r. ⌜ ChosenIs (now (marks .entry)) n n r ⌝ }
 {
     let mut chosen = n;
     let mut b: usize = 0;
     while b < n {
-        chosen = prefer(marks, priorities, chosen, b, n);
+        chosen = prefer(marks, priorities, last, chosen, b, n);
         b += 1;
     }
     chosen
@@ -133,8 +149,8 @@ fn turn<'a>(
     let mut marks = state.marks;
     marks[a] = 0;
     let replies = state.replies;
-    let sheet = sheets::fill(nums, from, also, &replies, a);
     let m = lengths[a] as usize;
+    let sheet = sheets::fill(nums, from, also, &replies, a, m * BLOCK);
     let run = starts::responses(&sheet, n, m, busies[a]);
     if run.past {
         return State {
@@ -182,14 +198,14 @@ pub fn settle<'a>(
         past: false,
     };
     let first = state.marks;
-    let mut a = choose(&first, priorities, n);
+    let mut a = choose(&first, priorities, n, n);
     while a < n {
         state = turn(nums, from, also, lengths, busies, reads, n, state, a);
         if state.past {
             return state;
         }
         let marks = state.marks;
-        a = choose(&marks, priorities, n);
+        a = choose(&marks, priorities, a, n);
     }
     state
 }

@@ -5,12 +5,12 @@ use Prim.Native.Nat.{ℕ, _+_, _*_, _≤_, _<_}
 use native.Mathlib.Omega.{arith}
 use lib.ListN.{length}
 use Rattle.rules.specs.Net.{Net}
-use Rattle.starts.specs.Sheet.{mostFlows, mostNodes, entrySize, blockSize, sheetSize, values}
+use Rattle.starts.specs.Sheet.{mostFlows, entrySize, blockSize, values}
 use Rattle.sheets.specs.Fields.{flowAt, nodeAt, upTo, noPlace, draftAt, Alone, DraftIs, FilledUpTo, EntryIs, SheetIs}
 
 module _ (N : Net) (nums from also replies : List ℕ) (draft : DraftIs N nums from also) (none : values replies noPlace ≡ 0) (a : ℕ) (here : a < length (N .flows))
-    (most : length (N .flows) ≤ mostFlows) (few : length (flowAt N a .path) ≤ mostNodes) (e : List ℕ) (full : FilledUpTo nums from also replies a sheetSize e) where
-  alone : (k v : ℕ) → k < sheetSize → Alone nums from also (draftAt a k) v → values e k ≡ v
+    (most : length (N .flows) ≤ mostFlows) (e : List ℕ) (full : FilledUpTo nums from also replies a (length (flowAt N a .path) * blockSize) e) where
+  alone : (k v : ℕ) → k < length (flowAt N a .path) * blockSize → Alone nums from also (draftAt a k) v → values e k ≡ v
   alone k v h l =
       full k h ∙ omega (arith, l .number, none, ap (values replies) (l .first), ap (values replies) (l .second))
 
@@ -18,7 +18,7 @@ module _ (N : Net) (nums from also replies : List ℕ) (draft : DraftIs N nums f
   after : (k c : ℕ) → draftAt a k + c ≡ draftAt a (k + c)
   after k c = omega arith
 
-  alone-after : (k c v : ℕ) → k + c < sheetSize → Alone nums from also (draftAt a k + c) v → values e (k + c) ≡ v
+  alone-after : (k c v : ℕ) → k + c < length (flowAt N a .path) * blockSize → Alone nums from also (draftAt a k + c) v → values e (k + c) ≡ v
   alone-after k c v h l = alone (k + c) v h (subst (λ x. Alone nums from also x v) (after k c) l)
 
   entry-at : (p b : ℕ) → p < length (flowAt N a .path) → b < length (N .flows) →

@@ -10,13 +10,13 @@ use Rattle.drafts.proofs.all_reads.Statement.{statement}
 use Rattle.drafts.proofs.all_reads.Tie as tie
 
 abbrev Inv-loop : tie.InvT-loop
-Inv-loop row table₀ k₀ table k = (k ≤ 256) × Tabulated (readAt (map flowOf (held row))) 256 1 table k
+Inv-loop row table₀ k₀ table k = (k ≤ 256) × Tabulated (readAt (map flowOf (held row))) 256 1 0 table k
 
 abbrev μ-loop : tie.MeasureT-loop
 μ-loop row table₀ k₀ table k = 256 - k
 
 loop-holds : tie.Need-loop-holds Inv-loop μ-loop
-loop-holds c = (search needs, table-start _ _ _)
+loop-holds c = (search needs, table-start _ _ _ _ (omega arith))
 
 read-at-requires : tie.Need-read-at-requires Inv-loop μ-loop
 read-at-requires c κs = search needs
@@ -34,7 +34,7 @@ loop-less : tie.Need-loop-less Inv-loop μ-loop
 loop-less c = search needs
 
 loop-again : tie.Need-loop-again Inv-loop μ-loop
-loop-again c = let l = c .before .before .loop in (search needs, table-more _ _ _ (l .table) (l .k) (c .read-at .result) (l .inv .1) (search needs) (c .read-at .ensures .0) (c .read-at .ensures .1))
+loop-again c = let l = c .before .before .loop in (search needs, table-more _ _ _ _ (l .table) (l .k) (c .read-at .result) (l .inv .1) (search needs) (c .read-at .ensures .0) (c .read-at .ensures .1))
 
 returns : tie.Need-returns Inv-loop μ-loop
 returns c = λ k h. let l = c .before .loop in l .inv .1 .done k (omega arith)

@@ -10,10 +10,10 @@ use Rattle.settle.proofs.choose.Lts as lts
 use Rattle.settle.proofs.prefer.Reads as prefer-reads
 
 abbrev Inv-loop : tie.InvT-loop
-Inv-loop marks priorities n chosen₀ b₀ chosen b = ChosenIs marks n b chosen
+Inv-loop marks priorities last n chosen₀ b₀ chosen b = ChosenIs marks n b chosen
 
 abbrev μ-loop : tie.MeasureT-loop
-μ-loop marks priorities n chosen₀ b₀ chosen b = n - b
+μ-loop marks priorities last n chosen₀ b₀ chosen b = n - b
 
 loop-holds : tie.Need-loop-holds Inv-loop μ-loop
 loop-holds c = search chosen-start

@@ -33,8 +33,29 @@ element-copy-out-if3-2 c = search needs
 returns-3 : tie.Need-returns-3
 returns-3 c = search chosen-next
 
+mul-if4 : tie.Need-mul-if4
+mul-if4 c = search needs
+
+element-copy-out-if4 : tie.Need-element-copy-out-if4
+element-copy-out-if4 c = search needs
+
+mul-if4-2 : tie.Need-mul-if4-2
+mul-if4-2 c = search needs
+
+element-copy-out-if4-2 : tie.Need-element-copy-out-if4-2
+element-copy-out-if4-2 c = search needs
+
 returns-4 : tie.Need-returns-4
 returns-4 c = search chosen-still
+
+comes-next-requires : tie.Need-comes-next-requires
+comes-next-requires c κs = search needs
+
+returns-5 : tie.Need-returns-5
+returns-5 c = search chosen-next
+
+returns-6 : tie.Need-returns-6
+returns-6 c = search chosen-still
 
 pub prefer-spec : {M : Type 1} → statement M
 prefer-spec =
@@ -49,4 +70,11 @@ prefer-spec =
     mul-if3-2
     element-copy-out-if3-2
     returns-3
-    returns-4)
+    mul-if4
+    element-copy-out-if4
+    mul-if4-2
+    element-copy-out-if4-2
+    returns-4
+    comes-next-requires
+    returns-5
+    returns-6)

@@ -2,7 +2,7 @@
 use Rattle.sheets.specs.Fields.{draftAt}
 use Rattle.sheets.proofs.Filling.{Filling, filling-start, filling-more}
 use Rattle.starts.specs.Sheet.{sheetSize}
-use Prim.Native.Nat.{_-_, _*_}
+use Prim.Native.Nat.{_-_, _*_, _≤_}
 use mathlib.Core.Path.{_≡_, refl}
 use borrow.Author.Needs.{needs}
 use native.Mathlib.Omega.{arith}
@@ -13,16 +13,16 @@ use Rattle.sheets.proofs.fill.Lts as lts
 use Rattle.sheets.proofs.wide.Reads as wide-reads
 
 abbrev Inv-loop : tie.InvT-loop
-Inv-loop nums from also replies a sheet₀ at k₀ sheet k = (at ≡ a * sheetSize) × Filling nums from also replies a sheet k
+Inv-loop nums from also replies a upto sheet₀ at k₀ sheet k = (at ≡ a * sheetSize) × (k ≤ upto) × Filling nums from also replies a sheet k
 
 abbrev μ-loop : tie.MeasureT-loop
-μ-loop nums from also replies a sheet₀ at k₀ sheet k = sheetSize - k
+μ-loop nums from also replies a upto sheet₀ at k₀ sheet k = upto - k
 
 mul-at : tie.Need-mul-at Inv-loop μ-loop
 mul-at c = search needs
 
 loop-holds : tie.Need-loop-holds Inv-loop μ-loop
-loop-holds c = (refl, filling-start _ _ _ _ _)
+loop-holds c = (refl, search needs, filling-start _ _ _ _ _)
 
 add-wide : tie.Need-add-wide Inv-loop μ-loop
 add-wide c = search needs
@@ -82,10 +82,10 @@ loop-less : tie.Need-loop-less Inv-loop μ-loop
 loop-less c = search needs
 
 loop-again : tie.Need-loop-again Inv-loop μ-loop
-loop-again c = let p = c .before .before .before .before .before .before .before .before .before .pre in let l = c .before .before .before .before .before .before .before .before .loop in (refl, filling-more _ _ _ _ _ (p .1) (p .2) (l .sheet) (l .k) (l .inv .1) (search needs) _ _ (c .before .before .before .before .before .wide .ensures .0) (c .before .before .before .wide2 .ensures .0))
+loop-again c = let p = c .before .before .before .before .before .before .before .before .before .pre in let l = c .before .before .before .before .before .before .before .before .loop in (refl, search needs, filling-more _ _ _ _ _ (p .1) (p .2) (l .sheet) (l .k) (l .inv .2) (search needs) _ _ (c .before .before .before .before .before .wide .ensures .0) (c .before .before .before .wide2 .ensures .0))
 
 returns : tie.Need-returns Inv-loop μ-loop
-returns c = let l = c .before .loop in (λ k h. l .inv .1 .done k (omega (arith, l .inv .1 .few)), l .inv .1 .small)
+returns c = let l = c .before .loop in (λ k h. l .inv .2 .done k (omega arith), (λ k h. l .inv .2 .rest k (omega arith), l .inv .2 .small))
 
 pub fill-spec : {M : Type 1} → statement M
 fill-spec =
