@@ -18,22 +18,24 @@ fn plain_judge(plan: &[u8]) -> u64 {
     plain::judge(&plain::read(plan), &mut plain::Counts::default())
 }
 
-/// The least of several runs of about a fifth of a second each.
-fn time(f: fn(&[u8]) -> u64, plan: &[u8]) -> Duration {
+fn run(f: fn(&[u8]) -> u64, plan: &[u8], turns: u32) -> Duration {
     let start = Instant::now();
-    black_box(f(black_box(plan)));
-    let once = start.elapsed();
-    let turns = (200_000_000 / once.as_nanos().max(1)).clamp(1, 100_000) as u32;
-    (0..5)
-        .map(|_| {
-            let start = Instant::now();
-            for _ in 0..turns {
-                black_box(f(black_box(plan)));
-            }
-            start.elapsed() / turns
-        })
-        .min()
-        .unwrap_or(once)
+    for _ in 0..turns {
+        black_box(f(black_box(plan)));
+    }
+    start.elapsed() / turns
+}
+
+/// The least of runs of about a twentieth of a second each, the two in turn, so that both meet the same machine.
+fn times(plan: &[u8]) -> (Duration, Duration) {
+    let once = run(proved, plan, 1);
+    let turns = (50_000_000 / once.as_nanos().max(1)).clamp(1, 100_000) as u32;
+    let mut least = (once, run(plain_judge, plan, 1));
+    for _ in 0..21 {
+        least.0 = least.0.min(run(proved, plan, turns));
+        least.1 = least.1.min(run(plain_judge, plan, turns));
+    }
+    least
 }
 
 fn main() {
@@ -43,7 +45,7 @@ fn main() {
         let mut counts = plain::Counts::default();
         let answer = plain::judge(&plain::read(&plan), &mut counts);
         assert_eq!(answer, proved(&plan), "{name}");
-        let (a, b) = (time(proved, &plan), time(plain_judge, &plan));
+        let (a, b) = times(&plan);
         let ratio = a.as_secs_f64() / b.as_secs_f64();
         println!(
             "{name} | {answer} | {} | {} | {} | {a:?} | {b:?} | {ratio:.2}",
