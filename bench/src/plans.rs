@@ -54,17 +54,17 @@ fn hall(priorities: u8, reversed: bool) -> Vec<u8> {
     bytes(1, 2, &flows)
 }
 
-/// Urgent flows, and others over the same eight nodes, every second one backwards. At a load of 1, or nearly, the bounds of flows that go
-/// against each other rise by little at a turn, until one passes the horizon.
-fn against(urgent: u8, others: u8) -> Vec<u8> {
+/// Urgent flows, and others of this cost and period over the same eight nodes, every second one backwards. At a load of 1, or nearly, the
+/// bounds of flows that go against each other rise by little at a turn, until one passes the horizon.
+fn against(urgent: u8, others: u8, cost: u16, period: u16) -> Vec<u8> {
     let flow = |a: u8| {
         let other = a >= urgent;
         let back = other && a % 2 == 1;
-        let cost = if other { 50 } else { 10 };
+        let (cost, period) = if other { (cost, period) } else { (10, 283) };
         Flow {
             number: a + 1,
             priority: !other as u8,
-            period: if other { 200 } else { 283 },
+            period,
             jitter: 0,
             path: (1..=8)
                 .map(|h| (if back { 9 - h } else { h }, cost))
@@ -98,8 +98,12 @@ pub fn all() -> Vec<(&'static str, Vec<u8>)> {
         ("hall, one priority", hall(1, false)),
         ("ring that settles slowly", bytes(0, 50, &ring)),
         ("hall, half of the paths reversed", hall(1, true)),
-        ("two against each other, below fourteen", against(14, 2)),
-        ("four, two against two", against(0, 4)),
+        ("sixteen, eight against eight", against(0, 16, 20, 320)),
+        (
+            "two against each other, below fourteen",
+            against(14, 2, 50, 200),
+        ),
+        ("four, two against two", against(0, 4, 50, 200)),
         ("one flow", bytes(1, 2, &one)),
     ]
 }
