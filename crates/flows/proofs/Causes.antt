@@ -21,9 +21,9 @@ module _ (lmin lmax : ℕ) where
   unfolding delayCause
   delays-long h g = rw (le-ltb _ _ h, lt-ltb _ _ g)
 
-  pub delays-fit : lmin ≤ lmax → lmax ≤ mostDelay → Accepted ≡ delayCause lmin lmax
+  pub delays-in : lmin ≤ lmax → lmax ≤ mostDelay → Accepted ≡ delayCause lmin lmax
   unfolding delayCause
-  delays-fit h g = rw (le-ltb _ _ h, le-ltb _ _ g)
+  delays-in h g = rw (le-ltb _ _ h, le-ltb _ _ g)
 
 module _ (n c : ℕ) where
   pub fits-no-node : n ≡ 0 → false ≡ hopFits (record { node = n; cost = c })
@@ -115,13 +115,3 @@ accepted-only (PastDeadline flow) e = absurd (false≢true e)
 accepted-only Absent e = absurd (false≢true e)
 accepted-only Malformed e = absurd (false≢true e)
 accepted-only ShortBuffer e = absurd (false≢true e)
-
--- link delays that passed refusal 1
-pub delays-small : (lmin lmax : ℕ) → delayCause lmin lmax ≡ Accepted → (lmin ≤ lmax) × (lmax ≤ mostDelay)
-unfolding delayCause
-delays-small lmin lmax e = go (ltb lmax lmin) (ltb mostDelay lmax) refl refl (ap numberOf e)
-  where
-    go : (p q : Bool) → ltb lmax lmin ≡ p → ltb mostDelay lmax ≡ q → numberOf (cond (p || q) Delays Accepted) ≡ 0 → (lmin ≤ lmax) × (lmax ≤ mostDelay)
-    go true q i j z = absurd (omega arith)
-    go false true i j z = absurd (omega arith)
-    go false false i j z = (ltb-false lmax lmin i, ltb-false mostDelay lmax j)

@@ -4,3 +4,4 @@ pub mod Arrays
 pub mod Causes
 pub mod Loops
 pub mod Passed
+pub mod Same

@@ -3,3 +3,4 @@ pub mod Refusals
 pub mod Lists
 pub mod Tests
 pub mod WellFormed
+pub mod Cases

@@ -5,7 +5,7 @@ ghost use lib.ListN.{length};
 ghost use Rattle.flows.specs.Refusals.{numberOf, acceptedBy, flowNamed, refusalOf};
 ghost use Rattle.flows.specs.Lists.{mostNodes, noFlow, pathOf, unusedOf};
 ghost use Rattle.flows.specs.Tests.{delayCause, every, hopFits, hopZero, rangesFit, distinct, nodesOf, notAgain, flowCause};
-ghost use Rattle.flows.specs.WellFormed.{Typed};
+ghost use Rattle.flows.specs.WellFormed.{OfDelays, OfFlow, Exact, Typed};
 
 // The flows of a table, and the nodes of a path, at most.
 pub const FLOWS: usize = 16;
@@ -161,6 +161,7 @@ pub fn refuse(cause: Cause, place: usize) -> Refusal
 
 pub fn delay_cause(lmin: u16, lmax: u16) -> Cause
     ensures { λ r. ⌜ r ≡ delayCause lmin lmax ⌝ }
+    ensures { λ r. ⌜ Exact r (OfDelays lmin lmax) ⌝ }
 {
     if lmax < lmin {
         return Cause::Delays;
@@ -287,6 +288,7 @@ fn nodes_differ(f: Flow) -> bool
 // Refusals 2 to 4, the lowest number first. That f is typed is for callers who keep it in a list, where no type says so.
 pub fn flow_cause(f: Flow) -> Cause
     ensures { λ r. ⌜ r ≡ flowCause f ⌝ }
+    ensures { λ r. ⌜ Exact r (OfFlow f) ⌝ }
     ensures { λ r. ⌜ Typed f ⌝ }
 {
     if f.number == 0 {

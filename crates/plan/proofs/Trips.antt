@@ -28,8 +28,8 @@ use Rattle.reader.specs.Places.{kindAt}
 use Rattle.plan.specs.Reading.{flowAt, linksAt, refused, listed, unless, fallsTo, recordCause, readFlows, readAfterLinks, ifLinks, readPlan}
 use Rattle.plan.specs.Writing.{linksBytes, flowBytes, flowsBytes, planBytes, planLength}
 use Rattle.row.specs.Sets.{Readable}
-use Rattle.flows.proofs.Causes.{accepted-only, delays-small}
-use Rattle.flows.proofs.Passed.{well-formed}
+use Rattle.flows.proofs.Causes.{accepted-only}
+use Rattle.flows.proofs.Passed.{delays-formed, formed}
 use Rattle.row.proofs.Valid.{row-valid}
 use Rattle.row.proofs.Arrays.{held-rowOf, length-snoc}
 use Rattle.records.proofs.Writing.{length-flow}
@@ -128,7 +128,7 @@ module _ (lmin lmax : ℕ) (fs : List Flow) where
   pub write-read : Readable lmin lmax fs → readPlan (planBytes lmin lmax fs) ≡ listed lmin lmax (rowOf fs)
   unfolding readPlan ifLinks unless
   write-read s =
-      let d = delays-small lmin lmax (s .delays) in
+      let d = delays-formed lmin lmax (s .delays) in
       let b : List ℕ = planBytes lmin lmax fs in
       let l : linksAt b 0 ≡ record { lmin = lmin; lmax = lmax } = links-same (omega arith) (omega arith) in
       let go : Links → Reading = λ x. unless (delayCause (x .lmin) (x .lmax)) 0 (readAfterLinks (x .lmin) (x .lmax) b) in
@@ -193,7 +193,7 @@ taken fs f t h =
     go true p true true i j k l g = absurd (false≢true g)
     go false false true true i j k l g = absurd (false≢true g)
     go true p true false i j k l g =
-        let n = well-formed f t (accepted-only (flowCause f) k) .number-least in
+        let n = formed f t (accepted-only (flowCause f) k) .number .0 in
         let z = eqb-true (f .number) 0 i in
         absurd (omega arith)
     go false false true false i j k l g =
@@ -332,7 +332,7 @@ module _ (b : List ℕ) where
 
 -- ---- a set that a plan can list is a valid set of the rules, and each of its flows well formed
 pub readable-valid : (lmin lmax : ℕ) (fs : List Flow) → Readable lmin lmax fs → Valid (netOf lmin lmax (rowOf fs))
-readable-valid lmin lmax fs s = row-valid lmin lmax fs (delays-small lmin lmax (s .delays) .0) (s .rising) (s .flows) (s .typed)
+readable-valid lmin lmax fs s = row-valid lmin lmax fs (delays-formed lmin lmax (s .delays) .0) (s .rising) (s .flows) (s .typed)
 
 -- ---- the length of a plan
 flows-long : (fs : List Flow) → Each Typed fs → length (flowsBytes fs) ≡ flowRecord * length fs

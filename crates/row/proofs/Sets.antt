@@ -1,6 +1,6 @@
 -- Rows in rising number: kept by insertion and removal, determined by their flows, and undone.
 use Prim.Native.Nat.{ℕ, suc, _≤_, _<_}
-use mathlib.Core.Path.{_≡_, refl, sym, ap, _∙_}
+use mathlib.Core.Path.{_≡_, refl, sym, ap, _∙_, subst}
 use mathlib.Core.Bool.{Bool, true, false, cond, false≢true}
 use mathlib.Core.List.{List, [], _∷_, List·Memᴰ, List·Memᴰ·head, List·Memᴰ·tail, List·Memᴰ·not-nil, List·Memᴰ·cases-cons}
 use mathlib.Core.Logic.{_⊎_, inl, inr, ⊎-elim}
@@ -8,21 +8,20 @@ use native.Mathlib.Omega.{arith}
 use native.Mathlib.Nat.{eq-or-lt-of-le}
 use lib.ListN.{length, getD}
 use lib.Dec.{eqb, leb, ltb}
-use borrow.Author.Tests.{eq-eqb, ne-eqb, eqb-true, eqb-false, ltb-true, ltb-false, leb-false, lt-leb}
+use borrow.Author.Tests.{eq-eqb, ne-eqb, eqb-true, eqb-false, lt-ltb, le-ltb, ltb-true, ltb-false, le-leb, lt-leb, leb-true, leb-false}
 use Rattle.flows.specs.declared.Flow.{Flow}
 use Rattle.flows.specs.Lists.{mostFlows, held, rowOf}
+use Rattle.flows.specs.declared.Cause.{Cause}
 use Rattle.flows.specs.declared.Cause.the-variants.{Accepted, Present, Full}
 use Rattle.flows.specs.Refusals.{acceptedBy}
 use Rattle.flows.specs.Tests.{flowCause}
-use Rattle.flows.specs.WellFormed.{Each, each-none, each-more}
+use Rattle.flows.specs.WellFormed.{Exact, Each, each-none, each-more, Typed}
 use Rattle.row.specs.declared.Found.the-variants.{At, Nothing}
 use Rattle.row.specs.Rows.{firstOf, placeOf, foundIn, insertSorted, without, inserted, entryCause, Rising, rising-none, rising-more}
 use Rattle.flows.proofs.Causes.{accepted-only}
+use Rattle.row.specs.Sets.{Lacks, Enters, OfEntry, by-itself, number-taken, no-room, let-in}
+use Rattle.flows.proofs.Passed.{flow-exact, formed, formed-passes}
 use Rattle.row.proofs.Arrays.{held-rowOf}
-
--- no flow of that number
-abbrev pub Lacks : ℕ → List Flow → Type 0
-Lacks number fs = Each (λ f. f .number ≡ number → ⊥) fs
 
 -- ---- insertion and removal keep the numbers rising
 pub insert-rising : {n : ℕ} (f : Flow) (fs : List Flow) → n < f .number → Lacks (f .number) fs → Rising n fs → Rising n (insertSorted f fs)
@@ -234,21 +233,85 @@ found-flow fs number at d h = go (ltb (placeOf number fs) (length fs)) refl h
         (rw (← p) l, rw (← p) (at-place number fs d l))
     go false e i = let z : _≡_ {A = ℕ} 0 1 = cc in absurd (omega arith)
 
--- refusals 2 to 6 do not apply
-pub record Enters (fs : List Flow) (f : Flow) : Type 0 where
-  pub flow : flowCause f ≡ Accepted
-  pub lacks : Lacks (f .number) fs
-  pub room : length fs < mostFlows
+lacks-place : (number : ℕ) (fs : List Flow) → Lacks number fs → length fs ≤ placeOf number fs
+unfolding firstOf
+lacks-place number [] a = omega arith
+lacks-place number (f ∷ fs) (each-more d a) = let ih = lacks-place number fs a in rw (ne-eqb (f .number) number d) (omega arith)
 
-pub enters : (fs : List Flow) (f : Flow) → entryCause fs f ≡ Accepted → Enters fs f
-unfolding entryCause
-enters fs f h =
-    go (acceptedBy (flowCause f)) (ltb (placeOf (f .number) fs) (length fs)) (leb mostFlows (length fs)) refl refl refl h
-  where
-    go : (p q r : Bool) → acceptedBy (flowCause f) ≡ p → ltb (placeOf (f .number) fs) (length fs) ≡ q → leb mostFlows (length fs) ≡ r →
-        cond p (cond q Present (cond r Full Accepted)) (flowCause f) ≡ Accepted → Enters fs f
-    go true true r i j k g = let z : _≡_ {A = ℕ} 0 1 = cc in absurd (omega arith)
-    go true false true i j k g = let z : _≡_ {A = ℕ} 0 1 = cc in absurd (omega arith)
-    go true false false i j k g =
-        record { flow = accepted-only (flowCause f) i; lacks = lacks-all (f .number) fs (ltb-false _ _ j); room = leb-false _ _ k }
-    go false q r i j k g = absurd (false≢true (sym i ∙ ap acceptedBy g))
+taken-place : (number : ℕ) (fs : List Flow) → placeOf number fs < length fs → Lacks number fs → ⊥
+taken-place number fs h a = omega (arith, lacks-place number fs a)
+
+module _ (fs : List Flow) (f : Flow) where
+  entry-itself : acceptedBy (flowCause f) ≡ false → flowCause f ≡ entryCause fs f
+  unfolding entryCause
+  entry-itself e = rw e
+
+  module _ (e : flowCause f ≡ Accepted) where
+    entry-taken : placeOf (f .number) fs < length fs → Present ≡ entryCause fs f
+    unfolding entryCause
+    entry-taken h = rw (e, lt-ltb _ _ h)
+
+    entry-filled : length fs ≤ placeOf (f .number) fs → mostFlows ≤ length fs → Full ≡ entryCause fs f
+    unfolding entryCause
+    entry-filled h g = rw (e, le-ltb _ _ h, le-leb _ _ g)
+
+    entry-let-in : length fs ≤ placeOf (f .number) fs → length fs < mostFlows → Accepted ≡ entryCause fs f
+    unfolding entryCause
+    entry-let-in h g = rw (e, le-ltb _ _ h, lt-leb _ _ g)
+
+  module _ (t : Typed f) where
+    of-entry : OfEntry fs f (entryCause fs f)
+    of-entry = go (acceptedBy (flowCause f)) (ltb (placeOf (f .number) fs) (length fs)) (leb mostFlows (length fs)) refl refl refl
+      where
+        go : (p q r : Bool) → acceptedBy (flowCause f) ≡ p → ltb (placeOf (f .number) fs) (length fs) ≡ q → leb mostFlows (length fs) ≡ r →
+            OfEntry fs f (entryCause fs f)
+        go false q r i j k =
+            subst (OfEntry fs f) (entry-itself i)
+            (by-itself (flowCause f) (λ e. false≢true (sym i ∙ ap acceptedBy e)) (flow-exact f t (flowCause f) .0 refl))
+        go true true r i j k =
+            let e = accepted-only (flowCause f) i in
+            let h = ltb-true _ _ j in
+            subst (OfEntry fs f) (entry-taken e h) (number-taken (formed f t e) (taken-place (f .number) fs h))
+        go true false true i j k =
+            let e = accepted-only (flowCause f) i in
+            let h = ltb-false _ _ j in
+            let g = leb-true _ _ k in
+            subst (OfEntry fs f) (entry-filled e h g) (no-room (formed f t e) (lacks-all (f .number) fs h) g)
+        go true false false i j k =
+            let e = accepted-only (flowCause f) i in
+            let h = ltb-false _ _ j in
+            let g = leb-false _ _ k in
+            subst (OfEntry fs f) (entry-let-in e h g) (let-in (record { flow = formed f t e; lacks = lacks-all (f .number) fs h; room = g }))
+
+    entry-only : (c : Cause) → OfEntry fs f c → c ≡ entryCause fs f
+    entry-only c (by-itself d n o) =
+        let e = flow-exact f t d .1 o in
+        sym e ∙ entry-itself (ap acceptedBy e ∙ go (acceptedBy d) refl)
+      where
+        go : (b : Bool) → acceptedBy d ≡ b → acceptedBy d ≡ false
+        go true h = absurd (n (accepted-only d h))
+        go false h = h
+    entry-only c (number-taken w n) = entry-taken (formed-passes f t w) (go (ltb (placeOf (f .number) fs) (length fs)) refl)
+      where
+        go : (b : Bool) → ltb (placeOf (f .number) fs) (length fs) ≡ b → placeOf (f .number) fs < length fs
+        go true h = ltb-true _ _ h
+        go false h = absurd (n (lacks-all (f .number) fs (ltb-false _ _ h)))
+    entry-only c (no-room w l g) = entry-filled (formed-passes f t w) (lacks-place (f .number) fs l) g
+    entry-only c (let-in n) = entry-let-in (formed-passes f t (n .flow)) (lacks-place (f .number) fs (n .lacks)) (n .room)
+
+    -- Refusals 2 to 6: each is given exactly when the rules say so
+    pub entry-exact : Exact (entryCause fs f) (OfEntry fs f)
+    entry-exact c = (λ e. subst (OfEntry fs f) e of-entry, λ g. sym (entry-only c g))
+
+    pub entry-given : (r : Cause) → r ≡ entryCause fs f → Exact r (OfEntry fs f)
+    entry-given r e c = (λ q. entry-exact c .0 (sym e ∙ q), λ g. e ∙ entry-exact c .1 g)
+
+    pub enters : entryCause fs f ≡ Accepted → Enters fs f
+    enters e = go (entry-exact Accepted .0 e)
+      where
+        go : OfEntry fs f Accepted → Enters fs f
+        go (by-itself c n o) = absurd (n refl)
+        go (let-in n) = n
+
+    pub entered : Enters fs f → entryCause fs f ≡ Accepted
+    entered n = entry-exact Accepted .1 (let-in n)

@@ -12,7 +12,7 @@ use Rattle.flows.specs.Lists.{rowOf, flowOf, netOf}
 use Rattle.flows.specs.Tests.{flowCause}
 use Rattle.flows.specs.WellFormed.{Each, each-more, Typed}
 use Rattle.row.specs.Rows.{Rising, rising-more}
-use Rattle.flows.proofs.Passed.{well-formed, formula-range}
+use Rattle.flows.proofs.Passed.{formed, formula-range}
 use Rattle.row.proofs.Arrays.{held-rowOf}
 
 above : {n : ℕ} {j : net.Flow} (fs : List Flow) → Rising n fs → List·Memᴰ j (map flowOf fs) → n < j .number
@@ -27,7 +27,7 @@ rising-numbers (f ∷ fs) (rising-more h r) = (λ j m. above fs r m, rising-numb
 in-range : (fs : List Flow) → Each (λ f. flowCause f ≡ Accepted) fs → Each Typed fs → (i : net.Flow) → List·Memᴰ i (map flowOf fs) → InRange i
 in-range [] c t i m = absurd (List·Memᴰ·not-nil m)
 in-range (f ∷ fs) (each-more e c) (each-more u t) i m =
-    ⊎-elim (λ (q : i ≡ flowOf f). rw q (formula-range (flowOf f) (well-formed f u e)))
+    ⊎-elim (λ (q : i ≡ flowOf f). rw q (formula-range f u (formed f u e)))
     (λ (k : List·Memᴰ i (map flowOf fs)). in-range fs c t i k)
     (List·Memᴰ·cases-cons m)
 

@@ -1,13 +1,14 @@
--- The sets that a plan can list and a table can hold.
-use Prim.Native.Nat.{ℕ, _≤_}
+-- The sets that a plan can list and a table can hold, what lets a flow into one, and which of refusals 2 to 6 is given, exactly when.
+use Prim.Native.Nat.{ℕ, _<_, _≤_}
 use mathlib.Core.Path.{_≡_}
 use mathlib.Core.List.{List}
 use lib.ListN.{length}
 use Rattle.flows.specs.declared.Flow.{Flow}
-use Rattle.flows.specs.declared.Cause.the-variants.{Accepted}
+use Rattle.flows.specs.declared.Cause.{Cause}
+use Rattle.flows.specs.declared.Cause.the-variants.{Accepted, Present, Full}
 use Rattle.flows.specs.Lists.{mostFlows}
 use Rattle.flows.specs.Tests.{delayCause, flowCause}
-use Rattle.flows.specs.WellFormed.{Each, Typed}
+use Rattle.flows.specs.WellFormed.{WellFormed, OfFlow, Each, Typed}
 use Rattle.row.specs.Rows.{Rising}
 
 -- refusals 1 to 4 do not apply, numbers rise, and there are at most sixteen flows; whether the set is accepted by 7 to 10 does not matter
@@ -17,3 +18,20 @@ pub record Readable (lmin lmax : ℕ) (fs : List Flow) : Type 0 where
   pub count : length fs ≤ mostFlows
   pub flows : Each (λ f. flowCause f ≡ Accepted) fs
   pub typed : Each Typed fs
+
+-- no flow of that number
+abbrev pub Lacks : ℕ → List Flow → Type 0
+Lacks number fs = Each (λ f. f .number ≡ number → ⊥) fs
+
+-- a well-formed flow, its number unused, and room left
+pub record Enters (fs : List Flow) (f : Flow) : Type 0 where
+  pub flow : WellFormed f
+  pub lacks : Lacks (f .number) fs
+  pub room : length fs < 16
+
+-- the lowest refusal from 2 to 6 that applies
+pub data OfEntry (fs : List Flow) (f : Flow) : Cause → Type 0 where
+  by-itself : (c : Cause) → (c ≡ Accepted → ⊥) → OfFlow f c → OfEntry fs f c
+  number-taken : WellFormed f → (Lacks (f .number) fs → ⊥) → OfEntry fs f Present
+  no-room : WellFormed f → Lacks (f .number) fs → 16 ≤ length fs → OfEntry fs f Full
+  let-in : Enters fs f → OfEntry fs f Accepted

@@ -9,8 +9,9 @@ ghost use Prim.Native.Nat.{_+_, _-_, _≤_, _<_};
 ghost use lib.ListN.{length, take, drop};
 ghost use Rattle.flows.specs.declared.Flow.{Flow};
 ghost use Rattle.flows.specs.Lists.{mostFlows, held, rowOf};
-ghost use Rattle.flows.specs.WellFormed.{Typed};
+ghost use Rattle.flows.specs.WellFormed.{Exact, Typed};
 ghost use Rattle.row.specs.Rows.{placeOf, rankOf, foundIn, without, inserted, appended, lastNumber, entryCause};
+ghost use Rattle.row.specs.Sets.{OfEntry};
 
 pub enum Found {
     At(usize),
@@ -155,6 +156,7 @@ pub fn last_number(row: Row) -> u8
 // Refusals 2 to 6, the lowest number first; f is typed, as flow_cause says.
 pub fn entry_cause(row: Row, f: Flow) -> Cause
     ensures { λ r. ⌜ r ≡ entryCause (held row) f ⌝ }
+    ensures { λ r. ⌜ Exact r (OfEntry (held row) f) ⌝ }
     ensures { λ r. ⌜ Typed f ⌝ }
 {
     let cause = flows::flow_cause(f);

@@ -18,14 +18,14 @@ use Rattle.flows.specs.Refusals.{acceptedBy}
 use Rattle.flows.specs.Lists.{mostFlows, held, rowOf, flowOf, netFrom, netOf, tableNet}
 use Rattle.flows.specs.Tests.{delayCause}
 use Rattle.flows.specs.WellFormed.{each-none, Typed}
-use Rattle.flows.proofs.Causes.{accepted-only, delays-small}
-use Rattle.flows.proofs.Passed.{well-formed}
+use Rattle.flows.proofs.Causes.{accepted-only}
+use Rattle.flows.proofs.Passed.{delays-formed, formed-passes}
 use Rattle.row.specs.declared.Found.{Found}
 use Rattle.row.specs.declared.Found.the-variants.{At, Nothing}
-use Rattle.row.specs.Sets.{Readable}
+use Rattle.row.specs.Sets.{Readable, Enters}
 use Rattle.row.specs.Rows.{foundIn, insertSorted, without, inserted, entryCause, rising-none}
 use Rattle.row.proofs.Arrays.{held-rowOf}
-use Rattle.row.proofs.Sets.{insert-rising, without-rising, insert-each, without-each, Enters, enters}
+use Rattle.row.proofs.Sets.{insert-rising, without-rising, insert-each, without-each, enters, entered}
 use Rattle.row.proofs.Valid.{row-valid}
 use Rattle.engine.specs.Verdicts.{causeOf, refused, given, verdictFrom, verdictOf}
 use Rattle.table.specs.Calls.{emptyTable, answered, unless, freshAnswer, holding, decided, judgedRow, admitted, withdrawnBy, withdrawn}
@@ -44,7 +44,7 @@ row-net lmin lmax fs = ap (netFrom lmin lmax) (held-rowOf fs)
 
 pub kept-valid : (lmin lmax : ℕ) (fs : List Flow) → Readable lmin lmax fs → Valid (netFrom lmin lmax fs)
 kept-valid lmin lmax fs k =
-    subst Valid (row-net lmin lmax fs) (row-valid lmin lmax fs (delays-small lmin lmax (k .delays) .0) (k .rising) (k .flows) (k .typed))
+    subst Valid (row-net lmin lmax fs) (row-valid lmin lmax fs (delays-formed lmin lmax (k .delays) .0) (k .rising) (k .flows) (k .typed))
 
 pub right-of : (t : Table) (fs : List Flow) (gs : List net.Figures) → t .row ≡ rowOf fs → Readable (t .lmin) (t .lmax) fs →
     judged (netFrom (t .lmin) (t .lmax) fs) ≡ net.Given gs → t .figures ≡ given gs .figures → Right t
@@ -106,12 +106,11 @@ module _ (t : Table) (f : Flow) (n : Enters (held (t .row)) f) where
 
   pub admit-kept : Readable (t .lmin) (t .lmax) (held (t .row)) → Typed f → Readable (t .lmin) (t .lmax) fs′
   admit-kept k u =
-      let w = well-formed f u (n .flow) in
       record {
         delays = k .delays;
-        rising = insert-rising f (held (t .row)) (w .number-least) (n .lacks) (k .rising);
+        rising = insert-rising f (held (t .row)) (n .flow .number .0) (n .lacks) (k .rising);
         count = omega (arith, length-inserted f (held (t .row)), n .room);
-        flows = insert-each _ f (held (t .row)) (n .flow) (k .flows);
+        flows = insert-each _ f (held (t .row)) (formed-passes f u (n .flow)) (k .flows);
         typed = insert-each _ f (held (t .row)) u (k .typed);
       }
 
