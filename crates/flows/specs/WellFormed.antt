@@ -1,4 +1,4 @@
--- What is known of a flow that passed refusals 2 to 4: document 01's "Numbers", of the rules' flow.
+-- What is known of a flow that passed refusals 2 to 4, said of the rules' flow. RULES, ranges.
 use Prim.Native.Nat.{ℕ, _<_, _≤_}
 use mathlib.Core.Path.{_≡_}
 use mathlib.Core.List.{List, [], _∷_}
