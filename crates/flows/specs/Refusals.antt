@@ -1,4 +1,4 @@
--- Refusal numbers: the number and the flow that document 01 gives to each cause.
+-- The number of each cause, and the flow that it names. RULES, refusals.
 use Prim.Native.Nat.{ℕ}
 use mathlib.Core.Bool.{Bool, cond}
 use lib.Dec.{eqb}

@@ -17,7 +17,7 @@ mostDelay = 4095
 abbrev pub mostCost : ℕ
 mostCost = 4095
 
--- 1: Lmin > Lmax or Lmax > 4,095
+-- 1: the greatest delay is below the least, or too long. RULES, refusals
 unfoldable pub delayCause : ℕ → ℕ → Cause
 delayCause lmin lmax = cond (ltb lmax lmin || ltb mostDelay lmax) Delays Accepted
 
@@ -53,7 +53,7 @@ nodesOf f = take (f .length) (f .nodes)
 abbrev pub notAgain : Flow → ℕ → Bool
 notAgain f i = newTo (drop (i + 1) (nodesOf f)) (getD (f .nodes) i 0)
 
--- 2: flow number 0; 3: out of range; 4: a node twice on a path
+-- 2: the number is 0; 3: something is out of range; 4: a node comes twice. RULES, refusals
 unfoldable pub flowCause : Flow → Cause
 flowCause f =
     cond (eqb (f .number) 0) NumberZero

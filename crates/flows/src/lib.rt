@@ -50,7 +50,7 @@ pub struct Table {
     pub figures: [Figures; FLOWS],
 }
 
-// Refusals 1 to 13 in document 01's order, with the flow that 7, 8 and 10 name.
+// Refusals 1 to 13 in their order, with the flow that 7, 8 and 10 name. RULES, refusals.
 pub enum Cause {
     Accepted,
     Delays,

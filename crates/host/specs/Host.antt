@@ -14,7 +14,7 @@ use Rattle.plans.specs.Plans.{planAnswer}
 abbrev pub mostPlace : ℕ
 mostPlace = planLength mostFlows
 
--- "0 for an accepted plan, else number + 256 × flow + 65,536 × place"
+-- a refusal in one number; an accepted plan has 0 for all three. RULES, host calls
 abbrev pub codeOf : Answer → ℕ
 codeOf a = numberOf (a .cause) + 256 * flowNamed (a .cause) + 65536 * a .place
 
@@ -29,6 +29,6 @@ boundIn a number = boundOf (askedFor (a .table) number)
 unfoldable pub planCode : List ℕ → ℕ
 planCode b = codeOf (planAnswer b)
 
--- the table of a refused plan has no flows
+-- a refused plan has a table without flows. RULES, host calls
 unfoldable pub planBound : List ℕ → ℕ → ℕ
 planBound b number = boundIn (planAnswer b) number

@@ -26,7 +26,7 @@ fn bound_in(answer: Answer, number: u8) -> u64
     }
 }
 
-// 0 for an accepted plan, else number + 256 × flow + 65,536 × place.
+// 0, or the refusal as one number. RULES, host calls.
 #[no_mangle]
 pub extern "C" fn kezhuvanam_judge(plan: &[u8]) -> u64
     ensures { λ r. ⌜ r ≡ planCode (now (plan .entry)) ⌝ }
@@ -34,7 +34,7 @@ pub extern "C" fn kezhuvanam_judge(plan: &[u8]) -> u64
     code(plans::read_plan(plan))
 }
 
-// That flow's bound, or 0 exactly if the plan is refused or lacks it.
+// The bound of a flow; 0 for a refused plan, or one without that flow. RULES, host calls.
 #[no_mangle]
 pub extern "C" fn kezhuvanam_bound(plan: &[u8], number: u64) -> u64
     ensures { λ r. ⌜ r ≡ planBound (now (plan .entry)) number ⌝ }

@@ -75,7 +75,7 @@ climb-least f m k v h l = elim (climb-rest f k 0) [
     u : Under f (climb f k 0)
     u = climb-under f m k 0 (under-zero f)
 
--- document 01's words and the form of the proofs
+-- Smallest, by which the rules speak, and Least, by which the proofs do
 pub floored-rising : (lo : ℕ) {f : ℕ → ℕ} → Rising f → Rising (floored lo f)
 floored-rising lo m a b h = omega (arith, m a b h)
 

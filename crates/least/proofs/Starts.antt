@@ -20,7 +20,7 @@ module _ {I : Type 0} (P : Order I) where
       ))
 
   -- Sums within c of one another have starting times within c of one another. With c = 0 this compares two instants, two vectors
-  -- of arrival bounds or two sets of flows; with c = B, t + B against t, it is lemma 3 of document 000.
+  -- of arrival bounds or two sets of flows; with c = B, t + B against t, it is lemma 3. RULES, response bounds.
   pub starts-within : (c : ℕ) (g g′ : Sums I) (W W′ : I → ℕ) → Within P c g g′ → Starts P g W → Starts P g′ W′ → (h : I) → P .On h → W h ≤ W′ h + c
   starts-within c g g′ W W′ k s s′ h o = within-below c g g′ W W′ k s s′ (suc (P .rank h)) h o (le-refl _)
 

@@ -1,4 +1,4 @@
--- count on two naturals is document 01's count over the whole numbers. Assumes nothing.
+-- count on two naturals is the rules' count over the whole numbers. Assumes nothing.
 use mathlib.Core.Path.{_≡_, refl, _∙_, sym, ap}
 use mathlib.Core.Logic.{inl, inr}
 use Prim.Native.Nat.{ℕ, zero, suc, _+_, _-_, _/_}

@@ -7,7 +7,7 @@ use lib.Dec.{leb}
 abbrev pub Rising : (ℕ → ℕ) → Type 0
 Rising f = (a b : ℕ) → a ≤ b → f a ≤ f b
 
--- "the least whole number w ≥ lo equal to f w"
+-- w is the first solution of f w = w from lo on
 pub record Smallest (lo : ℕ) (f : ℕ → ℕ) (w : ℕ) : Type 0 where
   pub from : lo ≤ w
   pub fixed : f w ≡ w
@@ -28,7 +28,7 @@ unfoldable pub climb : (ℕ → ℕ) → ℕ → ℕ → ℕ
 climb f zero x = x
 climb f (suc k) x = elim (leb (f x) x) [ true ↦ x | false ↦ climb f k (f x) ]
 
--- held at most at H + 1, which stands for "past H"
+-- held at most at H + 1, which stands for all that is past H
 abbrev pub cap : ℕ → (ℕ → ℕ) → ℕ → ℕ
 cap H f x = min (suc H) (f x)
 

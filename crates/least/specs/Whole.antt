@@ -1,4 +1,4 @@
--- count over the whole numbers, as document 01 writes it.
+-- count over the whole numbers. RULES, times and counts.
 use Prim.Native.Nat.{ℕ}
 use lib.IntN.{ℤ, pos, negsuc, _+ℤ_}
 use lib.Signed.{shrZ}

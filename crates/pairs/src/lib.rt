@@ -11,7 +11,7 @@ ghost use Rattle.flows.specs.Lists.{pathOf, flowOf};
 ghost use Rattle.paths.specs.Paths.{hopAt};
 ghost use Rattle.pairs.specs.Pairs.{sideRole};
 
-// Higher, equal and lower flows by priority; equal leaves out the flow itself.
+// What another flow is to this one. RULES, paths.
 pub enum Side {
     Own,
     Higher,

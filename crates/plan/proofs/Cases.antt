@@ -60,7 +60,7 @@ cases =
     record { bytes = listing []; number = 0; place = 0 } ∷
     record { bytes = listing (flow 7 1 4 ∷ []); number = 0; place = 0 } ∷
     record { bytes = listing (many 0 16); number = 0; place = 0 } ∷
-    -- 12: no kind byte left; unknown kind; body short; wrong place in the order; a further byte
+    -- 12: no byte; none where a kind byte is due; no such kind; a body cut short, twice; a second 01; a byte after the end
     record { bytes = []; number = 12; place = 0 } ∷
     record { bytes = linksBytes 1 1; number = 12; place = 5 } ∷
     record { bytes = 3 ∷ []; number = 12; place = 0 } ∷

@@ -343,7 +343,7 @@ flows-long (f ∷ fs) (each-more t e) =
     let l = length-flow f (t .nodes) (t .costs) in
     omega (arith, length-append (flowBytes f) (flowsBytes fs))
 
--- A table of n flows is written in 6 + 34 × n bytes
+-- the length that RULES, writing, says
 pub plan-long : (lmin lmax : ℕ) (fs : List Flow) → Each Typed fs → length (planBytes lmin lmax fs) ≡ 6 + 34 * length fs
 unfolding planBytes
 plan-long lmin lmax fs e =

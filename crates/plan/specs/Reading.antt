@@ -89,7 +89,7 @@ ifLinks OfFlow links other = other
 ifLinks OfEnd links other = other
 ifLinks OfNone links other = other
 
--- one 01, then 0 to 16 of 02 with rising numbers, then 7F, then nothing
+-- the first record is 01; readFlows has the order of the others. RULES, reading
 unfoldable pub readPlan : List ℕ → Reading
 readPlan b =
     ifLinks (kindAt b 0)

@@ -30,11 +30,11 @@ planBytes lmin lmax fs = linksBytes lmin lmax ++ flowsBytes fs ++ (endKind ∷ [
 abbrev pub planLength : ℕ → ℕ
 planLength n = linksRecord + flowRecord * n + 1
 
--- 13: buffer shorter than the plan to be written
+-- 13, if the plan does not fit. RULES, writing
 unfoldable pub writtenInto : ℕ → ℕ → Written
 writtenInto space n = cond (ltb space (planLength n)) (Refused (refusalOf ShortBuffer 0)) (Length (planLength n))
 
--- a buffer that long or longer gets the plan at its start and keeps the rest; a shorter one is unchanged
+-- the plan, and behind it what was there; where it does not fit, all that was there. RULES, writing
 unfoldable pub bufferAfter : ℕ → ℕ → List Flow → List ℕ → List ℕ
 bufferAfter lmin lmax fs old =
     cond (ltb (length old) (planLength (length fs))) old (planBytes lmin lmax fs ++ drop (planLength (length fs)) old)

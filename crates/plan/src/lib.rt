@@ -119,7 +119,7 @@ fn read_flows(plan: &[u8], lmin: u16, lmax: u16) -> Reading
     read_end(plan, at, lmin, lmax, row)
 }
 
-// One 01, then 0 to 16 of 02 with rising numbers, then 7F, then nothing; records are judged in order.
+// The records from the first on, until one is refused. RULES, reading.
 pub fn read(plan: &[u8]) -> Reading
     ensures { λ r. ⌜ r ≡ readPlan (now (plan .entry)) ⌝ }
 {

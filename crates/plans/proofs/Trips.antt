@@ -141,7 +141,7 @@ abbrev verdictOn : Reading → Verdict
 verdictOn r = verdictOf (r .lmin) (r .lmax) (r .row)
 
 module _ (b : List ℕ) where
-  -- "the table of a refused plan, is the empty one with both link delays 0"
+  -- no flows and no link delays if the plan is refused. RULES, tables
   pub refused-table : acceptedBy (planAnswer b .cause) ≡ false → planAnswer b .table ≡ emptyTable 0 0
   unfolding planAnswer answerTo setAnswer decidedBy
   refused-table = refused-empty (readPlan b) (verdictOn (readPlan b)) (acceptedBy (readPlan b .cause)) (acceptedBy (verdictOn (readPlan b) .cause))

@@ -17,7 +17,7 @@ use Rattle.engine.specs.declared.Verdict.{Verdict}
 use Rattle.engine.specs.Verdicts.{verdictOf}
 use Rattle.table.specs.Calls.{emptyTable}
 
--- "the table of a refused plan, is the empty one with both link delays 0"
+-- no flows and no link delays. RULES, tables
 unfoldable pub refusedPlan : Cause → ℕ → Answer
 refusedPlan cause place = record { cause = cause; place = place; table = emptyTable 0 0 }
 
@@ -31,7 +31,7 @@ acceptedPlan lmin lmax row figures = record {
 unfoldable pub decidedBy : ℕ → ℕ → Row → Verdict → Answer
 decidedBy lmin lmax row v = cond (acceptedBy (v .cause)) (acceptedPlan lmin lmax row (v .figures)) (refusedPlan (v .cause) 0)
 
--- "Then 7 to 10 on the whole set, place 0."
+-- 7 to 10 are of no one record, so the place is 0. RULES, reading
 unfoldable pub setAnswer : ℕ → ℕ → Row → Answer
 setAnswer lmin lmax row = decidedBy lmin lmax row (verdictOf lmin lmax row)
 

@@ -31,7 +31,7 @@ fn refuse(cause: Cause, place: usize) -> Answer
     }
 }
 
-// 7 to 10 on the whole set.
+// 7 to 10, of all flows together.
 fn judge_set(lmin: u16, lmax: u16, row: Row) -> Answer
     ensures { λ r. ⌜ (Valid (netOf lmin lmax row) → r ≡ setAnswer lmin lmax row) ⌝ }
 {

@@ -1,4 +1,4 @@
--- The layout of each body: what its bytes say, and the bytes that say it.
+-- The layout of each body: what its bytes say, and the bytes that say it. RULES, the plan.
 use Prim.Native.Nat.{ℕ, zero, suc, _+_, _*_, _/_, _%_}
 use mathlib.Core.List.{List, [], _∷_, _++_}
 use lib.ListN.{getD}

@@ -1,14 +1,14 @@
--- The kinds of a plan's records, and the length that each fixes for its body.
+-- The kinds of a plan's records, and how long each one's body is. RULES, the plan.
 use Prim.Native.Nat.{ℕ, _+_}
 
--- 01: Lmin, Lmax
+-- 01: the link delays
 abbrev pub linksKind : ℕ
 linksKind = 1
 
 abbrev pub linksBody : ℕ
 linksBody = 4
 
--- 02: number, priority, T, J, D, path length, eight nodes, eight costs
+-- 02: a flow
 abbrev pub flowKind : ℕ
 flowKind = 2
 
@@ -18,7 +18,7 @@ flowBody = 33
 abbrev pub flowNodes : ℕ
 flowNodes = 8
 
--- 7F: end, no body
+-- 7F: the end, which has no body
 abbrev pub endKind : ℕ
 endKind = 127
 

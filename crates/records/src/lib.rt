@@ -1,4 +1,4 @@
-// The kinds of a plan's records, and their bodies read and written. Two-byte numbers have the high byte first.
+// The kinds of a plan's records, and their bodies read and written; of a two-byte number the high byte comes first. RULES, the plan.
 use flows::Flow;
 ghost use mathlib.Core.Path.{_≡_};
 ghost use Prim.Native.Nat.{_+_, _*_, _/_, _%_, _<_};

@@ -48,7 +48,7 @@ appended row f = cond (leb mostFlows (row .count)) row (record { flows = set (ro
 unfoldable pub lastNumber : List Flow → ℕ
 lastNumber fs = getD fs (length fs - 1) noFlow .number
 
--- 2 to 4 of the flow alone; 5: number already in the table; 6: 16 flows already
+-- 2 to 4 of the flow alone; 5: its number is taken; 6: no place is left. RULES, refusals
 unfoldable pub entryCause : List Flow → Flow → Cause
 entryCause fs f =
     firstCause (flowCause f)

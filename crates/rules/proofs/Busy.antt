@@ -1,4 +1,4 @@
--- The busy length is document 01's, or there is none. Assumes nothing.
+-- The busy length is the one that is meant, or there is none. Assumes nothing.
 use mathlib.Core.Path.{_≡_, ap}
 use mathlib.Core.Bool.{Bool, true, false}
 use mathlib.Core.List.{List·Memᴰ}
@@ -16,7 +16,7 @@ use Rattle.rules.specs.Meaning.{IsBusy}
 use Rattle.rules.specs.Judge.{busyLength}
 use Rattle.rules.proofs.Grow.{othersLoad, load-is, crossing-flow}
 
--- what of the ranges of document 01 the sums of i need
+-- what of the ranges the sums of i need
 pub record Sound (N : Net) (i : Flow) : Type 0 where
   pub periods : (j : Flow) → List·Memᴰ j (N .flows) → 0 < j .period
   pub period : 0 < i .period

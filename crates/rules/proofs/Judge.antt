@@ -1,4 +1,4 @@
--- The judgement that computes is the one that document 01 means, and there is only one. Assumes nothing.
+-- The judgement that computes is the one that Meaning says, and there is only one. Assumes nothing.
 use mathlib.Core.Path.{_≡_, refl, _∙_, sym, ap, ap₂, subst}
 use mathlib.Core.Bool.{Bool, true, false}
 use mathlib.Core.Logic.{_⊎_, inl, inr}

@@ -67,7 +67,7 @@ module _ (N : Net) (ready : (i : Flow) → Here N i → Ready N i) where
   pub next-rising : Risingᵛ (next N)
   next-rising = next-below N N (part-below N N (part-refl N) (λ i m. ready i m .sound)) ready ready
 
-  -- document 01's equations, and the operator's
+  -- the equations of Settled, and the operator's
   same-arrivals : (R R′ : Flow → ℕ → ℕ) → ((i : Flow) → Here N i → (h : ℕ) → On i h → R i h ≡ R′ i h) → (k : Key) → arrivals N R k ≡ arrivals N R′ k
   same-arrivals R R′ e k = omega (
     arith,

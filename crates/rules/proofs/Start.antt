@@ -30,7 +30,7 @@ module _ (N : Net) (i : Flow) (ok : Sound N i) where
   rises-alone : (S : Arrivals) (u : ℕ) → Within (order i) 0 (sum N i S u) (sum N i S u)
   rises-alone S u = sum-rising S S (λ k. le-refl _) u u (le-refl _)
 
-  -- document 01's starting times are those of the path's order
+  -- the starting times that are meant are those of the path's order
   pub starts-meant : (S : Arrivals) (W : ℕ → ℕ → ℕ) → ((u : ℕ) → Starts (order i) (sum N i S u) (W u)) → IsStart N i S W
   starts-meant S W s u h o = least-from-zero (s u h o)
 
@@ -70,7 +70,7 @@ module _ (N : Net) (i : Flow) (ok : Ready N i) where
         busy-fixed N i ok,
       )
 
-  -- lemma 3 of document 000
+  -- lemma 3. RULES, response bounds
   pub lemma-3 : (S : Arrivals) (W : ℕ → ℕ → ℕ) → IsStart N i S W → (u h : ℕ) → On i h → W (u + B) h ≤ W u h + B
   lemma-3 S W s u h o =
       starts-within (order i) B (sum N i S (u + B)) (sum N i S u) (W (u + B)) (W u) (shifted S u)
@@ -92,7 +92,7 @@ module _ (N : Net) (i : Flow) (ok : Ready N i) where
       starts-meant N i (ok .sound) S (start N i S)
       (λ u. starts-found (order i) (sum N i S u) (rises-alone N i (ok .sound) S u) B (slow S u) (length (i .path)) (rank-below i))
 
-  -- the maximum over −J ≤ t < −J + B is the maximum over all t ≥ −J
+  -- B instants decide. RULES, response bounds
   pub response-is : (S : Arrivals) (h : ℕ) → On i h → IsResponse N i S h (response N i S h)
   unfolding response
   response-is S h o = record {

@@ -1,4 +1,4 @@
--- Terms 1, 2 and 3 count what document 01 writes over the whole numbers, with t = u − J. Assumes nothing.
+-- Terms 1, 2 and 3 count what the rules count over the whole numbers, with t = u − J. RULES, starting time. Assumes nothing.
 use mathlib.Core.Path.{_≡_, _∙_, ap}
 use Prim.Native.Nat.{ℕ, _+_, _<_}
 use native.Mathlib.Omega.{arith}

@@ -1,4 +1,4 @@
--- Document 01's plans tried by hand, those with *, as one list of rows under one statement: the judgement of the row's set is the expected one.
+-- The cases with *, and sets that tell readings apart, as two lists of rows: the judgement of each row's set is the expected one. RULES, cases.
 use mathlib.Core.Path.{_≡_, refl}
 use mathlib.Core.List.{List, [], _∷_}
 use Prim.Native.Nat.{ℕ}
@@ -59,7 +59,7 @@ rows =
     ∷ row (plain 1 1 3 10 ∷ flow 2 0 20 0 7 (hop 1 5 ∷ []) ∷ []) (Refused 10 2)
     ∷ []
 
--- Small sets that tell the formula from readings near it. The expected figures were worked out by the second program, from document 01's text.
+-- Small sets that tell the formula from readings near it. The expected figures were worked out by the second program, which shares nothing with these definitions.
 pub apart : List Row
 apart =
     on 1 (flow 1 1 20 0 60 (hop 1 2 ∷ hop 2 1 ∷ hop 3 1 ∷ []) ∷ flow 2 2 20 0 60 (hop 3 1 ∷ hop 1 1 ∷ []) ∷ flow 3 2 3 0 60 (hop 2 1 ∷ []) ∷ []) (Given (fig 8 2 5 ∷ fig 4 1 1 ∷ fig 1 0 1 ∷ []))

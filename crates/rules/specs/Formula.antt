@@ -1,4 +1,4 @@
--- Document 01, "Reading the trajectory formula", in its order and words. Naturals only: an instant t ≥ −J is u = t + J, and a count
+-- The formula: RULES, paths; RULES, times and counts; RULES, starting time. Naturals only: an instant t ≥ −J is u = t + J, and a count
 -- of x = a − b is count a b T; proofs/Whole shows that nothing is lost.
 use mathlib.Core.Bool.{Bool, true, false}
 use mathlib.Core.List.{List, [], _∷_, map}
@@ -16,7 +16,7 @@ horizon = 65535
 abbrev pub both : Bool → Bool → Bool
 both a b = pick a b false
 
--- "Higher", "equal" and "lower" are by priority; equal leaves out the flow itself.
+-- What j is to i. A flow is its own, and so not its equal.
 pub data Role : Type 0 where
   Own : Role
   Higher : Role
@@ -40,7 +40,7 @@ lower Higher = false
 lower Equal = false
 lower Lower = true
 
--- Paths. The prefix at h is the path up to and including h.
+-- Paths. The prefix at h ends with h; before h ends just short of it.
 unfoldable pub visits : List Hop → ℕ → Bool
 visits l h = anyOf (λ k. eqb (k .node) h) l
 
@@ -66,7 +66,7 @@ unfoldable pub lastOn : ℕ → List Hop → List Hop → ℕ
 lastOn h [] b = h
 lastOn h (k ∷ a) b = lastOn (pick (visits b (k .node)) (k .node) h) a b
 
--- C at a node: 0 where the path does not pass. "A cost serves as most and as least."
+-- C at a node: 0 where the path does not pass. The one cost is the least as well. RULES, ranges
 abbrev pub least : Hop → ℕ
 least k = k .cost
 
@@ -76,7 +76,7 @@ there f l h = maxOf (only (λ k. eqb (k .node) h) f) l
 abbrev pub costAt : List Hop → ℕ → ℕ
 costAt l h = there (λ k. k .cost) l h
 
--- A flow crosses a prefix if it visits a node of it.
+-- P and the path l have a node in common
 unfoldable pub crosses : List Hop → List Hop → Bool
 crosses P l = anyOf (λ k. visits P (k .node)) l
 
@@ -103,7 +103,7 @@ Arrivals = Key → ℕ
 unfoldable pub runsAlong : List Hop → Crossing → Bool
 runsAlong P j = eqb (firstOn (j .part) P) (firstOn P (j .part))
 
--- the higher and equal flows that run along i on P
+-- j is higher or equal, and runs along i on P
 unfoldable pub along : Flow → List Hop → Crossing → Bool
 along i P j = both (higherOrEqual (role i (j .flow))) (runsAlong P j)
 
@@ -116,7 +116,7 @@ leastCost N i k =
 unfoldable pub M : Net → Flow → ℕ → ℕ
 M N i h = sumOf (λ k. N .lmin + leastCost N i k) (before h (i .path))
 
--- Slowest cost on P; the weight of a packet of j is that of its part; i's slowest node is the earliest with that cost.
+-- Slowest cost on P; the weight of a packet of j is that of its part; of several slowest nodes the earliest counts.
 unfoldable pub slowest : List Hop → List Hop → ℕ
 slowest P l = maxOf (only (λ k. visits P (k .node)) (λ k. k .cost)) l
 
@@ -133,7 +133,7 @@ earliest c (k ∷ ks) = pick (eqb (k .cost) c) (k .node) (earliest c ks)
 unfoldable pub slowestNode : List Hop → Flow → ℕ
 slowestNode P i = earliest (slowest P (i .path)) P
 
--- A(i,j) = S(j,f) − M(i,f) + J of j, f the first node of i on j's path: what it adds, and what it takes off
+-- A(i,j) = S(j,f) − M(i,f) + J of j, f where P first meets j's path: what it adds, and what it takes off
 unfoldable pub plusA : Arrivals → List Hop → Crossing → ℕ
 plusA S P j = S (j .flow .number, firstOn P (j .part)) + j .flow .jitter
 
@@ -142,13 +142,13 @@ lessA N i P j = M N i (firstOn P (j .part))
 
 -- The sum of which W(i,h,t) is the least solution: P is the prefix at h, x gives W at the nodes before h, w is W at h.
 module _ (N : Net) (i : Flow) where
-  -- 1. packets of a higher flow: count(V − Smin(j,l) + A, T), l the last node of i on j's path, V = w if l = h
+  -- 1. packets of a higher flow: count(V − Smin(j,l) + A, T), l where P last meets j's path, V = w if l = h
   unfoldable pub term1 : Arrivals → List Hop → ℕ → (ℕ → ℕ) → ℕ → Crossing → ℕ
   term1 S P h x w j =
       let l = lastOn h P (j .part) in
       count (pick (eqb l h) w (x l) + plusA S P j) (smin N (j .flow) l + lessA N i P j) (j .flow .period)
 
-  -- 2. packets of an equal flow: count(t + S(i,g) − Smin(j,g) + A, T), g the first node that j visits
+  -- 2. packets of an equal flow: count(t + S(i,g) − Smin(j,g) + A, T), g where j first meets P
   unfoldable pub term2 : Arrivals → List Hop → ℕ → Crossing → ℕ
   term2 S P u j =
       let g = firstOn (j .part) P in
@@ -198,7 +198,7 @@ load N i b =
     ceil b (i .period) * ownWeight (i .path) i
     + sumOf (only (λ j. higherOrEqual (role i (j .flow))) (λ j. ceil b (j .flow .period) * weight (i .path) j)) (crossings N i)
 
--- S(j,h) along a path from a at its first node: elsewhere the response bound R at the node before, plus Lmax
+-- S(j,h) along a path: a at its first node, then Lmax more than R one node back. RULES, arrival bounds
 unfoldable pub arriving : ℕ → (ℕ → ℕ) → ℕ → List Hop → ℕ → ℕ
 arriving lmax R a [] h = 0
 arriving lmax R a (k ∷ ks) h = pick (eqb (k .node) h) a (arriving lmax R (R (k .node) + lmax) ks h)
@@ -207,6 +207,6 @@ arriving lmax R a (k ∷ ks) h = pick (eqb (k .node) h) a (arriving lmax R (R (k
 unfoldable pub arrivals : Net → (Flow → ℕ → ℕ) → Arrivals
 arrivals N R k = maxOf (only (λ i. eqb (i .number) (k .0)) (λ i. arriving (N .lmax) (R i) 0 (i .path) (k .1))) (N .flows)
 
--- the bound less the sum of the costs and (nodes − 1) × Lmin
+-- what the costs and the least link delays leave of the bound. RULES, response bounds
 unfoldable pub jitterOf : Net → Flow → ℕ → ℕ
 jitterOf N i bound = bound - (sumOf least (i .path) + (length (i .path) - 1) * N .lmin)

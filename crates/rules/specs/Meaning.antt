@@ -1,4 +1,4 @@
--- What document 01 says of the formula: the statements by which its figures and refusals are meant.
+-- What the figures and the refusals of a set are, said without computing.
 use mathlib.Core.Path.{_≡_}
 use mathlib.Core.Bool.{true}
 use mathlib.Core.List.{[], _∷_, map, List·Memᴰ, Sublistᴰ}
@@ -11,7 +11,7 @@ use Rattle.rules.specs.Formula.{horizon, visits, lastNode, costAt, Arriv
 abbrev pub On : Flow → ℕ → Type 0
 On i h = visits (i .path) h ≡ true
 
--- "every node of j's path between two of its nodes on i's path is itself on i's path"
+-- j does not come back to i's path after leaving it. RULES, crossing
 abbrev pub Keeps : Flow → Flow → Type 0
 Keeps i j = (k m n : Hop) → Sublistᴰ (k ∷ m ∷ n ∷ []) (j .path) → On i (k .node) → On i (n .node) → On i (m .node)
 
@@ -19,33 +19,33 @@ module _ (N : Net) where
   abbrev pub Here : Flow → Type 0
   Here i = List·Memᴰ i (N .flows)
 
-  -- "The starting time W(i,h,t), for release instant t ≥ −J, is the least whole number W ≥ 0 equal to the sum", with W itself at earlier nodes
+  -- the least solution at each instant and node, with W itself at earlier nodes. RULES, starting time
   abbrev pub IsStart : Flow → Arrivals → (ℕ → ℕ → ℕ) → Type 0
   IsStart i S W = (u h : ℕ) → On i h → Smallest 0 (sum N i S u h (W u)) (W u h)
 
-  -- "Response bound at h: the maximum over all t ≥ −J of W + C − t"
+  -- over every instant, without an end: W + C − t is W + C + J − u. RULES, response bounds
   pub record IsResponse (i : Flow) (S : Arrivals) (h r : ℕ) : Type 0 where
     pub W : ℕ → ℕ → ℕ
     pub start : IsStart i S W
     pub greatest : Greatest (λ u. W u h + costAt (i .path) h + i .jitter) r
 
-  -- "The flow's bound is that at its last node."
+  -- at the path's end. RULES, response bounds
   abbrev pub IsBound : Flow → Arrivals → ℕ → Type 0
   IsBound i S b = IsResponse i S (lastNode (i .path)) b
 
-  -- "Busy length of i: the least B from 1 to H with B equal to the sum"
+  -- the least solution above 0, if it is within the horizon. RULES, busy length
   pub record IsBusy (i : Flow) (B : ℕ) : Type 0 where
     pub smallest : Smallest 1 (load N i) B
     pub within : B ≤ horizon
 
-  -- "A settled set of arrival bounds meets every equation above with every response bound, at every node, at most H."
+  -- S gives the response bounds R, which give S again, and none is past the horizon. RULES, arrival bounds
   pub record Settled (S : Arrivals) : Type 0 where
     pub R : Flow → ℕ → ℕ
     pub response : (i : Flow) → Here i → (h : ℕ) → On i h → IsResponse i S h (R i h)
     pub meets : (k : ℕ × ℕ) → S k ≡ arrivals N R k
     pub within : (i : Flow) → Here i → (h : ℕ) → On i h → R i h ≤ horizon
 
-  -- "The least settled one is meant, entry by entry."
+  -- in no entry above another settled one. RULES, arrival bounds
   pub record LeastSettled (S : Arrivals) : Type 0 where
     pub settled : Settled S
     pub lowest : (U : Arrivals) → Settled U → (k : ℕ × ℕ) → S k ≤ U k
@@ -55,7 +55,7 @@ module _ (N : Net) where
     pub jitter : f .jitter ≡ jitterOf N i (f .bound)
     pub busy : IsBusy i (f .busy)
 
-  -- Assumption 1: "for flows i and j with j's priority at least i's"
+  -- assumption 1, against each flow of i's priority or a higher one. RULES, crossing
   abbrev pub Permitted : Flow → Type 0
   Permitted i = (j : Flow) → Here j → i .priority ≤ j .priority → Keeps i j
 
@@ -67,7 +67,7 @@ module _ (N : Net) where
     pub fault : AtFault flow
     pub lowest : (j : Flow) → Here j → AtFault j → n ≤ j .number
 
-  -- "The lowest number that applies": this one, naming the least flow at fault, or none is and what comes next decides.
+  -- Lower numbers first: this one, naming the least flow at fault, or none is and what comes next decides. RULES, refusals.
   pub data Lowest (refusal : ℕ) (AtFault : Flow → Type 0) (Next : Judgement → Type 0) : Judgement → Type 0 where
     applies : (n : ℕ) → Named AtFault n → Lowest refusal AtFault Next (Refused refusal n)
     passes : (v : Judgement) → ((i : Flow) → Here i → AtFault i → ⊥) → Next v → Lowest refusal AtFault Next v

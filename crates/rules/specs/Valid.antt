@@ -1,4 +1,4 @@
--- What of document 01's ranges the formula needs: no upper ones.
+-- What of the ranges the formula needs: no upper ones. RULES, ranges.
 use mathlib.Core.Path.{_≡_}
 use mathlib.Core.Bool.{false}
 use mathlib.Core.List.{List, [], _∷_, List·Memᴰ}
@@ -7,7 +7,7 @@ use lib.ListN.{length}
 use Rattle.rules.specs.Net.{Hop, Flow, Net}
 use Rattle.rules.specs.Formula.{visits}
 
--- "a path of distinct nodes"
+-- no node twice
 abbrev pub Distinct : List Hop → Type 0
 Distinct [] = Unit {0}
 Distinct (k ∷ l) = (visits l (k .node) ≡ false) × Distinct l
@@ -18,7 +18,7 @@ pub record InRange (i : Flow) : Type 0 where
   pub distinct : Distinct (i .path)
   pub costs : (k : Hop) → List·Memᴰ k (i .path) → 0 < k .cost
 
--- "flows in rising number"
+-- each number below all those after it
 abbrev pub RisingNumbers : List Flow → Type 0
 RisingNumbers [] = Unit {0}
 RisingNumbers (i ∷ l) = ((j : Flow) → List·Memᴰ j l → i .number < j .number) × RisingNumbers l

@@ -43,7 +43,7 @@ right-same t u r s a b h =
     let g : r .givens ≡ s .givens = cc in
     same-parts t u a b (r .row ∙ ap rowOf h ∙ sym (s .row)) (r .figures ∙ ap (λ (l : List net.Figures). given l .figures) g ∙ sym (s .figures))
 
--- Equal sets in equal networks are equal tables, in whatever order they were admitted
+-- The same flows and link delays are the same table, in whatever order the flows were admitted. RULES, tables
 pub equal-tables : (t u : Table) → Made t → Made u → t .lmin ≡ u .lmin → t .lmax ≡ u .lmax → Within t u → Within u t → t ≡ u
 equal-tables t u m n a b p q =
     let r = made-right t m in
@@ -134,7 +134,7 @@ module _ (t : Table) (r : Right t) (f : Flow) (m : Present t f) where
   right-again : admitted (withdrawn t (f .number) .table) f ≡ answered Accepted t
   right-again = readmitted (withdrawn t (f .number) .table) withdraw-lmin withdraw-lmax withdraw-held
 
--- Withdrawn room is used again: a flow that was withdrawn is admitted again, and gives the table as it was
+-- A flow that was withdrawn is admitted again, and gives the table as it was. RULES, tables
 pub withdraw-admit : (t : Table) → Made t → (f : Flow) → Present t f → admitted (withdrawn t (f .number) .table) f ≡ answered Accepted t
 withdraw-admit t m f p = right-again t (made-right t m) f p
 

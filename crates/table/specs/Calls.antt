@@ -24,7 +24,7 @@ use Rattle.engine.specs.Verdicts.{noFigures, verdictOf}
 unfoldable pub emptyTable : ℕ → ℕ → Table
 emptyTable lmin lmax = record { lmin = lmin; lmax = lmax; row = rowOf []; figures = replicate mostFlows noFigures }
 
--- "Place is 0 except as said for plans."
+-- where there is no plan, the place is 0. RULES, tables
 unfoldable pub answered : Cause → Table → Answer
 answered cause t = record { cause = cause; place = 0; table = t }
 
@@ -32,7 +32,7 @@ answered cause t = record { cause = cause; place = 0; table = t }
 unfoldable pub unless : Cause → Table → Answer → Answer
 unless cause old next = cond (acceptedBy cause) next (answered cause old)
 
--- 1: "the empty one with both link delays 0"
+-- refused by 1, it keeps no link delays. RULES, tables
 unfoldable pub freshAnswer : ℕ → ℕ → Answer
 freshAnswer lmin lmax = unless (delayCause lmin lmax) (emptyTable 0 0) (answered Accepted (emptyTable lmin lmax))
 
@@ -40,7 +40,7 @@ freshAnswer lmin lmax = unless (delayCause lmin lmax) (emptyTable 0 0) (answered
 unfoldable pub holding : Table → Row → List Figures → Table
 holding t row figures = record { lmin = t .lmin; lmax = t .lmax; row = row; figures = figures }
 
--- 7 to 10 "over the enlarged set", and "the old table"
+-- 7 to 10, of the row with the new flow; refused, the table is as it was
 unfoldable pub decided : Table → Row → Verdict → Answer
 decided t row v = unless (v .cause) t (answered Accepted (holding t row (v .figures)))
 
@@ -52,7 +52,7 @@ unfoldable pub admitted : Table → Flow → Answer
 admitted t f =
     unless (entryCause (held (t .row)) f) t (let row = inserted (t .row) f in decided t row (judgedRow t row))
 
--- 11: "number not in the table"
+-- 11, if no flow has the number
 unfoldable pub withdrawnBy : Table → ℕ → Found → Answer
 withdrawnBy t number Nothing = answered Absent t
 withdrawnBy t number (At place) =
@@ -61,7 +61,7 @@ withdrawnBy t number (At place) =
 unfoldable pub withdrawn : Table → ℕ → Answer
 withdrawn t number = withdrawnBy t number (foundIn (held (t .row)) number)
 
--- "Asking for a flow gives bound, jitter and busy length."
+-- the three figures, or 11. RULES, tables
 unfoldable pub askedBy : Table → Found → Asked
 askedBy t Nothing = Refused (refusalOf Absent 0)
 askedBy t (At place) = Given (getD (t .figures) place noFigures)

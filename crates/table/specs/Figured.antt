@@ -1,4 +1,4 @@
--- Demand 3's words: what the stored figures are, and what the enlarged set has when a flow is refused by 8, 9 or 10.
+-- What the stored figures are, and what the enlarged set has when a flow is refused by 8, 9 or 10. RULES, demands.
 use Prim.Native.Nat.{ℕ, _≤_, _<_}
 use mathlib.Core.Path.{_≡_}
 use mathlib.Core.List.{map, List·Memᴰ}
@@ -25,7 +25,7 @@ pub record Stored (t : Table) (S : Arrivals) (f : Flow) : Type 0 where
   pub right : IsFigures (tableNet t) S (flowOf f) (figuresOf shown)
   pub timely : shown .bound ≤ f .deadline
 
--- "every stored figure right": for the flows now present
+-- the same arrival bounds for all, those of the flows that are there now
 pub record Figured (t : Table) : Type 0 where
   pub arrivals : Arrivals
   pub least : LeastSettled (tableNet t) arrivals

@@ -1,4 +1,4 @@
--- Tables that are "made by calls of the library alone, beginning with a fresh table". A refused call gives back the table that it was handed.
+-- Tables that calls have made out of a fresh one. A refused call gives back the table that it was handed. RULES, tables.
 use Prim.Native.Nat.{ℕ}
 use Rattle.flows.specs.declared.Flow.{Flow}
 use Rattle.flows.specs.declared.Table.{Table}
