@@ -20,7 +20,7 @@ use Rattle.row.proofs.Arrays.{held-rowOf}
 use Rattle.records.proofs.RoundTrip.{Bytes}
 use Rattle.table.specs.Calls.{emptyTable, askedFor}
 use Rattle.table.specs.Made.{Made}
-use Rattle.table.specs.Figured.{Present}
+use Rattle.table.specs.Demands.{Present}
 use Rattle.table.proofs.Figures.{made-valid, made-figured}
 use Rattle.table.proofs.Calls.{ask-refused}
 use Rattle.plans.specs.Plans.{planAnswer}

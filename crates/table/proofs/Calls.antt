@@ -17,16 +17,18 @@ use Rattle.flows.specs.declared.Cause.{Cause}
 use Rattle.flows.specs.declared.Cause.the-variants.{Accepted, Absent}
 use Rattle.flows.specs.Refusals.{acceptedBy, refusalOf}
 use Rattle.flows.specs.Lists.{noFlow, held, rowOf}
+use Rattle.flows.specs.WellFormed.{Typed}
 use Rattle.flows.proofs.Causes.{accepted-only}
 use Rattle.row.specs.declared.Found.{Found}
 use Rattle.row.specs.declared.Found.the-variants.{At, Nothing}
 use Rattle.row.specs.Rows.{foundIn, insertSorted, inserted, entryCause}
 use Rattle.row.proofs.Arrays.{held-rowOf}
-use Rattle.row.proofs.Sets.{Enters, enters, insert-has, insert-keeps, insert-only, found-flow}
+use Rattle.row.specs.Sets.{Enters}
+use Rattle.row.proofs.Sets.{enters, insert-has, insert-keeps, insert-only, found-flow}
 use Rattle.engine.specs.declared.Verdict.{Verdict}
 use Rattle.engine.specs.Verdicts.{causeOf, refused, given, verdictFrom}
 use Rattle.table.specs.Calls.{answered, unless, holding, decided, judgedRow, admitted, withdrawnBy, withdrawn, askedBy, askedFor}
-use Rattle.table.specs.Figured.{Present, enlargedNet}
+use Rattle.table.specs.Demands.{Present, enlargedNet}
 use Rattle.table.proofs.Kept.{cause-refuses, admit-decided}
 
 pub decided-cause : (t : Table) (row : Row) (v : Verdict) → decided t row v .cause ≡ v .cause
@@ -43,9 +45,9 @@ pub record Done (t : Table) (f : Flow) : Type 0 where
   pub judgement : judged (enlargedNet t f) ≡ net.Given givens
   pub answer : admitted t f ≡ answered Accepted (holding t (rowOf (insertSorted f (held (t .row)))) (given givens .figures))
 
-pub admit-done : (t : Table) (f : Flow) → admitted t f .cause ≡ Accepted → Done t f
+pub admit-done : (t : Table) (f : Flow) → Typed f → admitted t f .cause ≡ Accepted → Done t f
 unfolding admitted unless answered decided verdictFrom given refused
-admit-done t f a = go (acceptedBy (entryCause (held (t .row)) f)) refl
+admit-done t f u a = go (acceptedBy (entryCause (held (t .row)) f)) refl
   where
     never : (c : Cause) → acceptedBy c ≡ false → c ≡ Accepted → ⊥
     never c e h = false≢true (sym e ∙ ap acceptedBy h)
@@ -61,15 +63,15 @@ admit-done t f a = go (acceptedBy (entryCause (held (t .row)) f)) refl
     go : (b : Bool) → acceptedBy (entryCause (held (t .row)) f) ≡ b → Done t f
     go true e =
         let c = accepted-only (entryCause (held (t .row)) f) e in
-        let n = enters (held (t .row)) f c in
+        let n = enters (held (t .row)) f u c in
         next n _ refl (admit-decided t f n c)
     go false e = absurd (never (entryCause (held (t .row)) f) e (sym (rw e) ∙ a))
 
 -- The flows present after an accepted admission: the new one and those that were
-module _ (t : Table) (f : Flow) (a : admitted t f .cause ≡ Accepted) where
+module _ (t : Table) (f : Flow) (u : Typed f) (a : admitted t f .cause ≡ Accepted) where
   admit-held : held (admitted t f .table .row) ≡ insertSorted f (held (t .row))
   unfolding answered holding
-  admit-held = ap (λ (r : Answer). held (r .table .row)) (admit-done t f a .answer) ∙ held-rowOf (insertSorted f (held (t .row)))
+  admit-held = ap (λ (r : Answer). held (r .table .row)) (admit-done t f u a .answer) ∙ held-rowOf (insertSorted f (held (t .row)))
 
   pub admit-has : Present (admitted t f .table) f
   admit-has = rw admit-held (insert-has f (held (t .row)))

@@ -19,7 +19,7 @@ use Rattle.row.specs.Rows.{firstOf, placeOf, foundIn}
 use Rattle.engine.specs.Verdicts.{noFigures, asFigures, given}
 use Rattle.table.specs.Calls.{askedBy, askedFor}
 use Rattle.table.specs.Made.{Made}
-use Rattle.table.specs.Figured.{Present, Figured}
+use Rattle.table.specs.Demands.{Present, Figured}
 use Rattle.table.proofs.Nets.{Accepting, accepting}
 use Rattle.table.proofs.Kept.{kept-valid, Right, made-right}
 

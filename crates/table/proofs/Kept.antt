@@ -25,7 +25,7 @@ use Rattle.row.specs.declared.Found.the-variants.{At, Nothing}
 use Rattle.row.specs.Sets.{Readable, Enters}
 use Rattle.row.specs.Rows.{foundIn, insertSorted, without, inserted, entryCause, rising-none}
 use Rattle.row.proofs.Arrays.{held-rowOf}
-use Rattle.row.proofs.Sets.{insert-rising, without-rising, insert-each, without-each, enters, entered}
+use Rattle.row.proofs.Sets.{insert-rising, without-rising, insert-each, without-each, enters}
 use Rattle.row.proofs.Valid.{row-valid}
 use Rattle.engine.specs.Verdicts.{causeOf, refused, given, verdictFrom, verdictOf}
 use Rattle.table.specs.Calls.{emptyTable, answered, unless, freshAnswer, holding, decided, judgedRow, admitted, withdrawnBy, withdrawn}
@@ -133,7 +133,7 @@ module _ (t : Table) (r : Right t) where
       go : (b : Bool) → acceptedBy (entryCause (held (t .row)) f) ≡ b → Right (admitted t f .table)
       go true e =
           let c = accepted-only (entryCause (held (t .row)) f) e in
-          let n = enters (held (t .row)) f c in
+          let n = enters (held (t .row)) f u c in
           subst (λ a. Right (a .table)) (sym (admit-decided t f n c)) (next n _ refl)
       go false e = rw e r
 

@@ -7,3 +7,4 @@ pub mod Calls
 pub mod Withdrawals
 pub mod Refusals
 pub mod Ways
+pub mod Promises

@@ -2,39 +2,38 @@
 use Prim.Native.Nat.{ℕ, zero, suc, _≤_, _<_}
 use mathlib.Core.Path.{_≡_, refl, sym, ap, _∙_, subst}
 use mathlib.Core.Bool.{Bool, true, false, cond}
-use mathlib.Core.List.{List, [], _∷_, map, List·Memᴰ, List·Memᴰ·head, List·Memᴰ·tail, List·Memᴰ·not-nil, Memᴰ·map}
+use mathlib.Core.List.{List, [], _∷_, map, List·Memᴰ, List·Memᴰ·head, List·Memᴰ·tail, List·Memᴰ·not-nil, List·Memᴰ·cases-cons, Memᴰ·map}
+use mathlib.Core.Logic.{⊎-elim}
 use native.Mathlib.Omega.{arith}
 use lib.ListN.{length}
 use lib.Dec.{eqb}
-use borrow.Author.Tests.{eq-eqb, ne-eqb, lt-ltb, le-ltb, lt-leb}
+use borrow.Author.Tests.{eq-eqb, ne-eqb, lt-ltb, le-ltb}
 use Rattle.rules.specs.Net as net
 use Rattle.rules.specs.Valid.{RisingNumbers}
+use Rattle.rules.specs.Meaning.{Here}
 use Rattle.rules.specs.Judge.{judged}
 use Rattle.flows.specs.declared.Flow.{Flow}
 use Rattle.flows.specs.declared.Figures.{Figures}
 use Rattle.flows.specs.declared.Table.{Table}
 use Rattle.flows.specs.declared.Answer.{Answer}
 use Rattle.flows.specs.declared.Cause.the-variants.{Accepted}
-use Rattle.flows.specs.Lists.{held, rowOf, flowOf, netFrom}
-use Rattle.flows.specs.WellFormed.{Each, each-none, each-more}
-use Rattle.flows.proofs.Passed.{each-member}
-use Rattle.row.specs.Rows.{firstOf, placeOf, insertSorted, without, entryCause}
+use Rattle.flows.specs.Lists.{held, rowOf, flowOf, netFrom, tableNet}
+use Rattle.flows.specs.WellFormed.{Each, each-none, each-more, Typed}
+use Rattle.flows.proofs.Passed.{each-member, formed}
+use Rattle.flows.proofs.Same.{same-flow}
+use Rattle.row.specs.Rows.{insertSorted, without}
 use Rattle.row.proofs.Arrays.{held-rowOf}
-use Rattle.row.proofs.Sets.{Lacks, same-flows, without-only, Enters}
+use Rattle.row.specs.Sets.{Readable, Enters}
+use Rattle.row.proofs.Sets.{same-flows, without-only, entered}
 use Rattle.engine.specs.Verdicts.{given, verdictFrom}
 use Rattle.table.specs.Calls.{emptyTable, answered, unless, freshAnswer, holding, decided, judgedRow, admitted, withdrawnBy, withdrawn}
 use Rattle.table.specs.Made.{Made, by-fresh, by-admit}
-use Rattle.table.specs.Figured.{Present}
-use Rattle.row.specs.Sets.{Readable}
+use Rattle.table.specs.Demands.{Present, SameSet}
 use Rattle.table.proofs.Kept.{Right, right-of, empty-right, admit-decided, withdraw-right, made-right}
 use Rattle.table.proofs.Figures.{right-valid, found-present}
 
 same-parts : (t u : Table) → t .lmin ≡ u .lmin → t .lmax ≡ u .lmax → t .row ≡ u .row → t .figures ≡ u .figures → t ≡ u
 same-parts t u a b c d = λ x. record { lmin = a x; lmax = b x; row = c x; figures = d x }
-
--- every flow of t is one of u
-abbrev pub Within : Table → Table → Type 0
-Within t u = (f : Flow) → Present t f → Present u f
 
 right-same : (t u : Table) → Right t → Right u → t .lmin ≡ u .lmin → t .lmax ≡ u .lmax → held (t .row) ≡ held (u .row) → t ≡ u
 right-same t u r s a b h =
@@ -43,12 +42,30 @@ right-same t u r s a b h =
     let g : r .givens ≡ s .givens = cc in
     same-parts t u a b (r .row ∙ ap rowOf h ∙ sym (s .row)) (r .figures ∙ ap (λ (l : List net.Figures). given l .figures) g ∙ sym (s .figures))
 
+from-map : {i : net.Flow} (fs : List Flow) → List·Memᴰ i (map flowOf fs) → (f : Flow) × List·Memᴰ f fs × (flowOf f ≡ i)
+from-map [] m = absurd (List·Memᴰ·not-nil m)
+from-map {i} (g ∷ gs) m =
+    ⊎-elim (λ (e : i ≡ flowOf g). (g, List·Memᴰ·head refl, sym e))
+    (λ (p : List·Memᴰ i (map flowOf gs)). let q = from-map gs p in (q .0, List·Memᴰ·tail (q .1), q .2))
+    (List·Memᴰ·cases-cons m)
+
+-- a flow that both have by the rules' flow is the same in both
+within : (t u : Table) → Right t → Right u → ((i : net.Flow) → Here (tableNet t) i → Here (tableNet u) i) → (f : Flow) → Present t f → Present u f
+within t u r s h f p =
+    let q = from-map (held (u .row)) (h (flowOf f) (Memᴰ·map flowOf p)) in
+    let a = each-member _ (held (t .row)) (r .set .typed) p in
+    let b = each-member _ (held (u .row)) (s .set .typed) (q .1) in
+    let v = formed f a (each-member _ (held (t .row)) (r .set .flows) p) in
+    let w = formed (q .0) b (each-member _ (held (u .row)) (s .set .flows) (q .1)) in
+    subst (λ (g : Flow). Present u g) (same-flow (q .0) f b a w v (q .2)) (q .1)
+
 -- The same flows and link delays are the same table, in whatever order the flows were admitted. RULES, tables
-pub equal-tables : (t u : Table) → Made t → Made u → t .lmin ≡ u .lmin → t .lmax ≡ u .lmax → Within t u → Within u t → t ≡ u
-equal-tables t u m n a b p q =
+pub equal-tables : (t u : Table) → Made t → Made u → SameSet (tableNet t) (tableNet u) → t ≡ u
+equal-tables t u m n e =
     let r = made-right t m in
     let s = made-right u n in
-    right-same t u r s a b (same-flows (held (t .row)) (held (u .row)) (r .set .rising) (s .set .rising) p q)
+    right-same t u r s (e .lmin) (e .lmax)
+    (same-flows (held (t .row)) (held (u .row)) (r .set .rising) (s .set .rising) (within t u r s (λ i. e .flows i .0)) (within u t s r (λ i. e .flows i .1)))
 
 -- ---- a flow withdrawn and admitted again
 module _ {A : Type 0} {P : A → Type 0} where
@@ -84,16 +101,6 @@ shorter f (g ∷ gs) (List·Memᴰ·tail m) = go (eqb (g .number) (f .number)) (
     go true ih = omega arith
     go false ih = omega arith
 
-lacks-place : (number : ℕ) (fs : List Flow) → Lacks number fs → length fs ≤ placeOf number fs
-unfolding firstOf
-lacks-place number [] a = omega arith
-lacks-place number (f ∷ fs) (each-more d a) = let ih = lacks-place number fs a in rw (ne-eqb (f .number) number d) (omega arith)
-
--- where refusals 2 to 6 do not apply, none is given
-pub entered : (fs : List Flow) (f : Flow) → Enters fs f → entryCause fs f ≡ Accepted
-unfolding entryCause
-entered fs f n = rw (n .flow, le-ltb _ _ (lacks-place (f .number) fs (n .lacks)), lt-leb _ _ (n .room))
-
 module _ (t : Table) (r : Right t) (f : Flow) (m : Present t f) where
   abbrev fewer : List Flow
   fewer = without (f .number) (held (t .row))
@@ -114,9 +121,12 @@ module _ (t : Table) (r : Right t) (f : Flow) (m : Present t f) where
   unfolding answered holding
   withdraw-held = ap (λ (a : Answer). held (a .table .row)) withdraw-done ∙ held-rowOf fewer
 
+  typed : Typed f
+  typed = each-member _ (held (t .row)) (r .set .typed) m
+
   left : Enters fewer f
   left = record {
-    flow = each-member _ (held (t .row)) (r .set .flows) m;
+    flow = formed f typed (each-member _ (held (t .row)) (r .set .flows) m);
     lacks = each-from fewer (λ g n. without-only (f .number) g (held (t .row)) (r .set .rising) n .0);
     room = omega (arith, shorter f (held (t .row)) m, r .set .count);
   }
@@ -128,7 +138,7 @@ module _ (t : Table) (r : Right t) (f : Flow) (m : Present t f) where
       let e : insertSorted f (held (s .row)) ≡ held (t .row) = ap (insertSorted f) h ∙ insert-without f (held (t .row)) (right-valid t r .rising) m in
       let j : judged (netFrom (s .lmin) (s .lmax) (insertSorted f (held (s .row)))) ≡ net.Given (r .givens) = rw (a, b, e) (r .accepted) in
       let u : Table = holding s (rowOf (insertSorted f (held (s .row)))) (given (r .givens) .figures) in
-      admit-decided s f n (entered (held (s .row)) f n) ∙ ap (λ (v : net.Judgement). decided s (rowOf (insertSorted f (held (s .row)))) (verdictFrom v)) j ∙
+      admit-decided s f n (entered (held (s .row)) f typed n) ∙ ap (λ (v : net.Judgement). decided s (rowOf (insertSorted f (held (s .row)))) (verdictFrom v)) j ∙
       ap (answered Accepted) (same-parts u t a b (ap rowOf e ∙ sym (r .row)) (sym (r .figures)))
 
   right-again : admitted (withdrawn t (f .number) .table) f ≡ answered Accepted t

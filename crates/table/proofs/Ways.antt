@@ -1,4 +1,4 @@
--- A law for each way out of a call, and that each call has one outcome. Assumes nothing.
+-- A law for each way out of a call. Assumes nothing.
 use Prim.Native.Nat.{ℕ, _<_}
 use mathlib.Core.Path.{_≡_, refl, sym, ap, _∙_, subst}
 use mathlib.Core.Bool.{Bool, true, false, not}
@@ -56,9 +56,6 @@ module _ (lmin lmax : ℕ) (cause : Cause) (e : cause ≡ delayCause lmin lmax) 
   unfolding freshAnswer unless
   fresh-accepted h i j = j ∙ ap (answered Accepted) i ∙ rw (← e, ← g, not-false b h)
 
-pub fresh-made : (lmin lmax : ℕ) (r : Answer) → r ≡ freshAnswer lmin lmax → Made (r .table)
-fresh-made lmin lmax r e = subst (λ (a : Answer). Made (a .table)) (sym e) (by-fresh lmin lmax)
-
 -- ---- the verdict decides
 module _ (t : Table) (row : Row) (v : Verdict) (b : Bool) (g : b ≡ acceptedBy (v .cause)) (r : Answer) where
   pub decided-refused : not b ≡ true → r ≡ answered (v .cause) t → r ≡ decided t row v
@@ -83,12 +80,9 @@ module _ (t : Table) (f : Flow) (u : Typed f) (cause : Cause) (e : cause ≡ ent
   unfolding admitted unless
   admit-judged larger v h i k j m =
       let c : entryCause (held (t .row)) f ≡ Accepted = sym e ∙ accepted-only cause (sym g ∙ not-false b h) in
-      let n = enters (held (t .row)) f c in
+      let n = enters (held (t .row)) f u c in
       let valid = row-valid-net (t .lmin) (t .lmax) _ larger (i ∙ admit-row t f n) (kept-valid (t .lmin) (t .lmax) _ (admit-kept t f n (made-right t m .set) u)) in
       j ∙ ap (decided t larger) (k valid) ∙ ap (λ (row : Row). decided t row (judgedRow t row)) i ∙ rw c
-
-pub admit-made : (t : Table) (f : Flow) (r : Answer) → Typed f → (Made t → r ≡ admitted t f) → Made t → Made (r .table)
-admit-made t f r u e m = subst (λ (a : Answer). Made (a .table)) (sym (e m)) (by-admit f m u)
 
 -- ---- withdraw
 module _ (t : Table) (number : ℕ) (found : Found) (e : found ≡ foundIn (held (t .row)) number) (r : Answer) where
@@ -104,9 +98,6 @@ module _ (t : Table) (number : ℕ) (found : Found) (e : found ≡ foundIn (held
       let valid = row-valid-net (t .lmin) (t .lmax) _ smaller i (kept-valid (t .lmin) (t .lmax) _ (withdraw-kept t (made-right t m) number)) in
       j ∙ ap (answered Accepted) (l ∙ ap (λ (w : Verdict). holding t smaller (w .figures)) (k valid) ∙
       ap (λ (row : Row). holding t row (judgedRow t row .figures)) i) ∙ ap (withdrawnBy t number) (sym h ∙ e)
-
-pub withdraw-made : (t : Table) (number : ℕ) (r : Answer) → (Made t → r ≡ withdrawn t number) → Made t → Made (r .table)
-withdraw-made t number r e m = subst (λ (a : Answer). Made (a .table)) (sym (e m)) (by-withdraw number m)
 
 -- ---- ask
 module _ (t : Table) (number : ℕ) (found : Found) (e : found ≡ foundIn (held (t .row)) number) where
@@ -126,16 +117,3 @@ module _ (t : Table) (number : ℕ) (found : Found) (e : found ≡ foundIn (held
   ask-present place d h l k =
       let w = ask-within place h l in
       ap Given (getD-any (t .figures) place d noFigures (omega arith)) ∙ ap (askedBy t) (sym h ∙ e)
-
--- Any two outcomes that a contract allows are equal
-pub fresh-one : (lmin lmax : ℕ) (r s : Answer) → r ≡ freshAnswer lmin lmax → s ≡ freshAnswer lmin lmax → r ≡ s
-fresh-one lmin lmax r s e g = e ∙ sym g
-
-pub admit-one : (t : Table) (f : Flow) → Made t → (r s : Answer) → (Made t → r ≡ admitted t f) → (Made t → s ≡ admitted t f) → r ≡ s
-admit-one t f m r s e g = e m ∙ sym (g m)
-
-pub withdraw-one : (t : Table) (number : ℕ) → Made t → (r s : Answer) → (Made t → r ≡ withdrawn t number) → (Made t → s ≡ withdrawn t number) → r ≡ s
-withdraw-one t number m r s e g = e m ∙ sym (g m)
-
-pub ask-one : (t : Table) (number : ℕ) (r s : Asked) → r ≡ askedFor t number → s ≡ askedFor t number → r ≡ s
-ask-one t number r s e g = e ∙ sym g

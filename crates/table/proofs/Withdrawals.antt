@@ -16,7 +16,7 @@ use Rattle.row.proofs.Sets.{without-keeps, without-only}
 use Rattle.engine.specs.Verdicts.{asFigures}
 use Rattle.table.specs.Calls.{answered, withdrawn, askedFor}
 use Rattle.table.specs.Made.{Made}
-use Rattle.table.specs.Figured.{Present}
+use Rattle.table.specs.Demands.{Present}
 use Rattle.table.proofs.Nets.{part-lower}
 use Rattle.table.proofs.Kept.{without-part, withdraw-right, made-right}
 use Rattle.table.proofs.Figures.{right-valid, right-accepting, asked-figures}

@@ -1,4 +1,4 @@
 -- The definitions of `table`.
 pub mod Calls
 pub mod Made
-pub mod Figured
+pub mod Demands

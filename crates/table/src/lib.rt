@@ -12,6 +12,7 @@ ghost use mathlib.Core.Path.{_≡_};
 ghost use Rattle.flows.specs.WellFormed.{Typed};
 ghost use Rattle.table.specs.Calls.{emptyTable, answered, freshAnswer, holding, decided, admitted, withdrawn, askedFor};
 ghost use Rattle.table.specs.Made.{Made};
+ghost use Rattle.table.specs.Demands.{Freshly, Admitting, Withdrawing, Asking};
 
 fn empty(lmin: u16, lmax: u16) -> Table
     ensures { λ r. ⌜ r ≡ emptyTable lmin lmax ⌝ }
@@ -38,6 +39,7 @@ fn hand_back(cause: Cause, t: Table) -> Answer
 
 pub fn fresh(lmin: u16, lmax: u16) -> Answer
     ensures { λ r. ⌜ r ≡ freshAnswer lmin lmax ⌝ }
+    ensures { λ r. ⌜ Freshly lmin lmax r ⌝ }
 {
     let cause = flows::delay_cause(lmin, lmax);
     if !flows::accepted(cause) {
@@ -73,6 +75,7 @@ fn decide(t: Table, row: Row, verdict: Verdict) -> Answer
 // in a list, as of flow_cause.
 pub fn admit(t: Table, f: Flow) -> Answer
     ensures { λ r. ⌜ (Made t → r ≡ admitted t f) ⌝ }
+    ensures { λ r. ⌜ (Made t → Admitting t f r) ⌝ }
     ensures { λ r. ⌜ Typed f ⌝ }
 {
     let row = t.row;
@@ -88,6 +91,7 @@ pub fn admit(t: Table, f: Flow) -> Answer
 // As for admit.
 pub fn withdraw(t: Table, number: u8) -> Answer
     ensures { λ r. ⌜ (Made t → r ≡ withdrawn t number) ⌝ }
+    ensures { λ r. ⌜ (Made t → Withdrawing t number r) ⌝ }
 {
     let row = t.row;
     let Found::At(_) = row::find(row, number) else {
@@ -100,6 +104,7 @@ pub fn withdraw(t: Table, number: u8) -> Answer
 
 pub fn ask(t: Table, number: u8) -> Asked
     ensures { λ r. ⌜ r ≡ askedFor t number ⌝ }
+    ensures { λ r. ⌜ (Made t → Asking t number r) ⌝ }
 {
     let row = t.row;
     let Found::At(place) = row::find(row, number) else {

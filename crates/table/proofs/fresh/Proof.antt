@@ -1,6 +1,7 @@
 -- `table::fresh` meets its contract.
 use Rattle.table.proofs.Ways.{fresh-refused, fresh-accepted}
 use borrow.Author.Needs.{needs}
+use Rattle.table.proofs.Promises.{fresh-promise}
 use Rattle.table.proofs.fresh.Statement.{statement}
 use Rattle.table.proofs.fresh.Tie as tie
 
@@ -17,7 +18,7 @@ hand-back-requires : tie.Need-hand-back-requires
 hand-back-requires c κs = search needs
 
 returns : tie.Need-returns
-returns c = search fresh-refused
+returns c = (search fresh-refused, search (fresh-promise, fresh-refused))
 
 empty-requires-2 : tie.Need-empty-requires-2
 empty-requires-2 c κs = search needs
@@ -26,7 +27,7 @@ hand-back-requires-2 : tie.Need-hand-back-requires-2
 hand-back-requires-2 c κs = search needs
 
 returns-2 : tie.Need-returns-2
-returns-2 c = search fresh-accepted
+returns-2 c = (search fresh-accepted, search (fresh-promise, fresh-accepted))
 
 pub fresh-spec : {M : Type 1} → statement M
 fresh-spec =

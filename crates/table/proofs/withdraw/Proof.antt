@@ -1,6 +1,7 @@
 -- `table::withdraw` meets its contract.
 use Rattle.table.proofs.Ways.{withdraw-absent, withdraw-judged}
 use borrow.Author.Needs.{needs}
+use Rattle.table.proofs.Promises.{withdraw-promise}
 use Rattle.table.proofs.withdraw.Statement.{statement}
 use Rattle.table.proofs.withdraw.Tie as tie
 
@@ -17,7 +18,7 @@ hand-back-requires : tie.Need-hand-back-requires
 hand-back-requires c κs = search needs
 
 returns : tie.Need-returns
-returns c = search withdraw-absent
+returns c = (search withdraw-absent, search (withdraw-promise, withdraw-absent))
 
 remove-requires : tie.Need-remove-requires
 remove-requires c κs = search needs
@@ -32,7 +33,7 @@ hand-back-requires-2 : tie.Need-hand-back-requires-2
 hand-back-requires-2 c κs = search needs
 
 returns-2 : tie.Need-returns-2
-returns-2 c = search withdraw-judged
+returns-2 c = (search withdraw-judged, search (withdraw-promise, withdraw-judged))
 
 pub withdraw-spec : {M : Type 1} → statement M
 withdraw-spec =
