@@ -34,6 +34,13 @@ impl Table {
         }
     }
 
+    /// The table that a plan gives, or the plan's refusal.
+    pub fn of_plan(bytes: &[u8]) -> Result<Table, Refusal> {
+        let set = plan::read(bytes)?;
+        let figures = judge_set(&set)?;
+        Ok(Table { set, figures })
+    }
+
     /// Refusals 2 to 10, "the last four over the enlarged set"; a refusal
     /// leaves the table as it was.
     pub fn admit(&mut self, record: &Record) -> Result<(), Refusal> {
