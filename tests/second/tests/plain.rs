@@ -1,8 +1,8 @@
-//! The formula once more, as slowly and as near to document 01's words as can
-//! be: nothing is worked out ahead, W is looked for by trying 0, 1, 2, ...,
-//! instants go on for three busy lengths, and arrival bounds are raised one by
-//! one. It has to agree with the program on small sets; a set that turns out to
-//! be long is left out.
+//! The formula once more, as slowly and as near to the rules (RULES, starting
+//! time) as can be: nothing is worked out ahead, W is looked for by trying 0, 1,
+//! 2, ..., instants go on for three busy lengths, and arrival bounds are raised
+//! one by one. It has to agree with the program on small sets; a set that turns
+//! out to be long is left out.
 
 use second::busy::busy;
 use second::dice::Dice;
@@ -25,7 +25,7 @@ type Arrivals = HashMap<(i64, i64), i64>;
 #[derive(Clone, Copy, Debug, PartialEq)]
 enum Reading {
     Right,
-    /// Term 1: l is the last node that j visits on the prefix, in j's order.
+    /// Term 1: l is the last in j's order, not in i's.
     LastOfTheOther,
     /// Term 2 without Smin(j,g).
     NoLeastArrival,
@@ -35,7 +35,7 @@ enum Reading {
     OwnWholeNode,
     /// Term 1: V is W at the node before h where l is not h.
     StartJustBefore,
-    /// Term 4: who runs along i on the whole path.
+    /// Term 4: running along is judged on all of i's path.
     AlongWholePath,
     /// M: the costs of i alone.
     OwnProgress,
