@@ -1,10 +1,12 @@
 -- The rules' judgement of a row's flows, as the code gives it.
 use Prim.Native.Nat.{ℕ, _-_}
+use mathlib.Core.Path.{_≡_}
 use mathlib.Core.Bool.{cond}
 use mathlib.Core.List.{List, _++_, map}
 use lib.Dec.{eqb}
 use lib.ListN.{length, replicate}
 use Rattle.rules.specs.Net as net
+use Rattle.rules.specs.Meaning.{Judged}
 use Rattle.rules.specs.Judge.{judged}
 use Rattle.flows.specs.declared.Figures.{Figures}
 use Rattle.flows.specs.declared.Row.{Row}
@@ -36,3 +38,10 @@ verdictFrom (net.Given fs) = given fs
 
 unfoldable pub verdictOf : ℕ → ℕ → Row → Verdict
 verdictOf lmin lmax row = verdictFrom (judged (netOf lmin lmax row))
+
+-- the verdict of the judgement that the rules mean, which is the only one
+pub record Meant (N : net.Net) (r : Verdict) : Type 0 where
+  pub judgement : net.Judgement
+  pub meant : Judged N judgement
+  pub said : r ≡ verdictFrom judgement
+  pub only : (v : net.Judgement) → Judged N v → v ≡ judgement

@@ -1,6 +1,6 @@
 //! Whole-number arithmetic, signed throughout.
 
-/// 01: "floor towards minus infinity". The divisor is positive.
+/// The quotient rounded down, of negative numbers too; the divisor is positive.
 pub fn floor(x: i64, t: i64) -> i64 {
     let q = x / t;
     if x % t < 0 {
@@ -15,7 +15,7 @@ pub fn ceil(x: i64, t: i64) -> i64 {
     -floor(-x, t)
 }
 
-/// 01: "count(x,T) = max(0, 1 + floor(x / T))".
+/// How many of 0, t, 2 t, ... are at most x. RULES, starting time.
 pub fn count(x: i64, t: i64) -> i64 {
     (1 + floor(x, t)).max(0)
 }

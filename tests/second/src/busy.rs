@@ -5,9 +5,10 @@ use crate::flow::HORIZON;
 use crate::paths::{crosses, slowest_cost};
 use crate::set::Set;
 
-/// 01: "the least B from 1 to H with B equal to the sum over i and the higher
-/// and equal flows crossing its path of ceil(B / T) × slowest cost on the whole
-/// path." The sum rises with B, so that the iteration from 1 meets the least.
+/// The shortest span, up to the horizon, that is filled by what i and the
+/// flows on its path that are at least as urgent can send in it, each at its
+/// slowest cost on i's path. RULES, busy length. What they send rises with the
+/// span, so that the iteration from 1 meets the shortest.
 pub fn busy(set: &Set, i: usize) -> Option<i64> {
     let path = &set.flows[i].path;
     let loads: Vec<(i64, i64)> = set

@@ -1,6 +1,6 @@
 //! Sequences of calls on a table, as bytes, and the answers as lines.
 
-use crate::flow::{Links, Record, BODY};
+use crate::flow::{push_two, two, Links, Record, BODY};
 use crate::plan::{accepted_text, line};
 use crate::refusal::Refusal;
 use crate::table::Table;
@@ -14,10 +14,17 @@ pub enum Call {
     Ask(i64),
     Print,
     Write,
+    /// Write into a buffer of so many bytes.
+    Lend(usize),
 }
 
+/// The longest buffer that a call may ask for.
+pub const LONGEST: usize = 900;
+/// What each byte of a lent buffer is before the call.
+const UNTOUCHED: u8 = 0xA5;
+
 /// The call at the start of the bytes and its length; None if it is unknown or
-/// cut short.
+/// cut short, or lends too long a buffer.
 fn parse(input: &[u8]) -> Option<(Call, usize)> {
     let body = |length: usize| input.get(1..1 + length);
     match input.first()? {
@@ -27,8 +34,13 @@ fn parse(input: &[u8]) -> Option<(Call, usize)> {
         b'Q' => Some((Call::Ask(i64::from(body(1)?[0])), 2)),
         b'T' => Some((Call::Print, 1)),
         b'P' => Some((Call::Write, 1)),
+        b'B' => Some((lend(two(body(2)?, 0) as usize)?, 3)),
         _ => None,
     }
+}
+
+fn lend(length: usize) -> Option<Call> {
+    (length <= LONGEST).then_some(Call::Lend(length))
 }
 
 impl Call {
@@ -40,6 +52,11 @@ impl Call {
             Call::Ask(number) => vec![b'Q', *number as u8],
             Call::Print => vec![b'T'],
             Call::Write => vec![b'P'],
+            Call::Lend(length) => {
+                let mut out = vec![b'B'];
+                push_two(&mut out, *length as i64);
+                out
+            }
         }
     }
 
@@ -58,6 +75,7 @@ impl Call {
             Call::Ask(number) => said(table.ask(*number), |figures| line(&figures)),
             Call::Print => accepted_text(table.figures()),
             Call::Write => written(table),
+            Call::Lend(length) => lent(table, *length),
         }
     }
 }
@@ -69,32 +87,50 @@ fn said<T>(answer: Result<T, Refusal>, text: impl Fn(T) -> String) -> String {
     }
 }
 
-/// The plan's bytes in hexadecimal, out of a buffer of just their length.
-fn written(table: &Table) -> String {
+/// The plan's bytes in hexadecimal, out of a buffer of just their length. The
+/// calls go on with the table that they give when they are read.
+fn written(table: &mut Table) -> String {
     let mut buffer = vec![0; table.length()];
-    said(table.write(&mut buffer), |_| {
-        let digits: String = buffer.iter().map(|byte| format!("{byte:02x}")).collect();
-        format!("{digits}\n")
-    })
+    let answer = table.write(&mut buffer);
+    let again = Table::of_plan(&buffer).expect("the plan of a table is accepted");
+    assert_eq!(again, *table, "the plan of a table gives it back");
+    *table = again;
+    said(answer, |_| hexadecimal(&buffer))
 }
 
-/// Hands each call and its answer on, beginning with the table made from the
-/// first four bytes. False: a bad call ended them.
-pub fn each(input: &[u8], mut see: impl FnMut(&Call, &str) -> io::Result<()>) -> io::Result<bool> {
+/// The length that was written or the refusal, then the whole buffer.
+fn lent(table: &Table, length: usize) -> String {
+    let mut buffer = vec![UNTOUCHED; length];
+    let answer = table.write(&mut buffer);
+    said(answer, |length| format!("{length}\n")) + &hexadecimal(&buffer)
+}
+
+/// A line of two digits a byte.
+fn hexadecimal(bytes: &[u8]) -> String {
+    let digits: String = bytes.iter().map(|byte| format!("{byte:02x}")).collect();
+    format!("{digits}\n")
+}
+
+/// Hands each call on, with its answer and the table after it, beginning with
+/// the table made from the first four bytes. False: a bad call ended them.
+pub fn each(
+    input: &[u8],
+    mut see: impl FnMut(&Call, &str, &Table) -> io::Result<()>,
+) -> io::Result<bool> {
     let Some(links) = input.get(..4) else {
         return Ok(false);
     };
     let (mut table, _) = Table::fresh(Links::ZERO);
     let first = Call::Fresh(Links::from_bytes(links));
     let answer = first.make(&mut table);
-    see(&first, &answer)?;
+    see(&first, &answer, &table)?;
     let mut rest = &input[4..];
     while !rest.is_empty() {
         let Some((call, length)) = parse(rest) else {
             return Ok(false);
         };
         let answer = call.make(&mut table);
-        see(&call, &answer)?;
+        see(&call, &answer, &table)?;
         rest = &rest[length..];
     }
     Ok(true)
@@ -102,7 +138,7 @@ pub fn each(input: &[u8], mut see: impl FnMut(&Call, &str) -> io::Result<()>) ->
 
 /// Answers all calls; "bad call" ends them.
 pub fn answer_all(input: &[u8], out: &mut dyn Write) -> io::Result<()> {
-    let whole = each(input, |_, answer| out.write_all(answer.as_bytes()))?;
+    let whole = each(input, |_, answer, _| out.write_all(answer.as_bytes()))?;
     if !whole {
         out.write_all(b"bad call\n")?;
     }
@@ -168,6 +204,58 @@ mod tests {
         );
     }
 
+    /// Six bytes or more hold the empty plan and keep the rest.
+    #[test]
+    fn lent_buffers() {
+        let lend = |length| answers(&stream(&[Call::Lend(length)]));
+        assert_eq!(lend(0), "fresh\nrefused 13 flow 0 at 0\n\n");
+        assert_eq!(lend(1), "fresh\nrefused 13 flow 0 at 0\na5\n");
+        assert_eq!(lend(5), "fresh\nrefused 13 flow 0 at 0\na5a5a5a5a5\n");
+        assert_eq!(lend(6), "fresh\n6\n01000100017f\n");
+        assert_eq!(lend(8), "fresh\n6\n01000100017fa5a5\n");
+        let rest = "a5".repeat(894);
+        assert_eq!(lend(900), format!("fresh\n6\n01000100017f{rest}\n"));
+    }
+
+    #[test]
+    fn a_lent_buffer_leaves_the_table() {
+        let admit = Call::Admit(flow(1, 2, 3, 10).record());
+        let calls = [admit, Call::Lend(39), Call::Lend(40), Call::Ask(1)];
+        let short = "a5".repeat(39);
+        let plan =
+            "0100010001020102000a0000003c010100000000000000000300000000000000000000000000007f";
+        let text =
+            format!("fresh\nadmitted\nrefused 13 flow 0 at 0\n{short}\n40\n{plan}\n1 3 0 3\n");
+        assert_eq!(answers(&stream(&calls)), text);
+    }
+
+    #[test]
+    fn calls_go_on_after_a_written_plan() {
+        let one = Call::Admit(flow(1, 2, 3, 10).record());
+        let two = Call::Admit(flow(2, 1, 5, 20).record());
+        let calls = [
+            one.clone(),
+            Call::Write,
+            one,
+            two,
+            Call::Write,
+            Call::Withdraw(1),
+            Call::Print,
+        ];
+        let given = answers(&stream(&calls));
+        let lines: Vec<&str> = given.lines().filter(|l| !l.starts_with("01")).collect();
+        let wanted = [
+            "fresh",
+            "admitted",
+            "refused 5 flow 0 at 0",
+            "admitted",
+            "withdrawn",
+            "flow bound jitter busy",
+            "2 5 0 5",
+        ];
+        assert_eq!(lines, wanted);
+    }
+
     #[test]
     fn bad_calls_end_the_answers() {
         assert_eq!(answers(&[]), "bad call\n");
@@ -176,6 +264,11 @@ mod tests {
         assert_eq!(answers(&[0, 1, 0, 1, b'X', b'T']), "fresh\nbad call\n");
         assert_eq!(answers(&[0, 1, 0, 1, b'Q']), "fresh\nbad call\n");
         assert_eq!(answers(&[0, 1, 0, 1, b'N', 0, 0, 0]), "fresh\nbad call\n");
+        assert_eq!(answers(&[0, 1, 0, 1, b'B']), "fresh\nbad call\n");
+        assert_eq!(answers(&[0, 1, 0, 1, b'B', 0]), "fresh\nbad call\n");
+        // 901 bytes, and 65,535.
+        assert_eq!(answers(&[0, 1, 0, 1, b'B', 3, 133]), "fresh\nbad call\n");
+        assert_eq!(answers(&[0, 1, 0, 1, b'B', 255, 255]), "fresh\nbad call\n");
         let mut cut = stream(&[Call::Admit(flow(1, 1, 1, 10).record())]);
         cut.pop();
         assert_eq!(answers(&cut), "fresh\nbad call\n");
@@ -193,6 +286,8 @@ mod tests {
             Call::Ask(0),
             Call::Print,
             Call::Write,
+            Call::Lend(0),
+            Call::Lend(LONGEST),
         ];
         for call in calls {
             let bytes = call.bytes();

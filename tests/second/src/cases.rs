@@ -1,5 +1,5 @@
-//! Document 01's plans tried by hand and its errors that look right. The
-//! figures are typed from the document; nothing here is worked out by the
+//! The rules' cases, and figures that a likely mistake would give. All figures
+//! are typed from the rules (RULES, cases); nothing here is worked out by the
 //! program that is being checked.
 
 use crate::flow::{Flow, Links};
@@ -12,7 +12,7 @@ use crate::verdict::{judge_set, Figures};
 /// Bound, jitter, busy.
 type Row = (i64, i64, i64);
 
-/// 01: "Lmin = Lmax = 1".
+/// The link delays of every case.
 const LINKS: Links = Links { least: 1, most: 1 };
 
 /// Differences found, as lines to print.
@@ -35,7 +35,7 @@ impl Findings {
         self.checks += 1;
         if given == wrong {
             self.differences
-                .push(format!("{name}: {given:?} is the error that looks right"));
+                .push(format!("{name}: {given:?} is what a likely mistake gives"));
         }
     }
 
@@ -75,7 +75,8 @@ impl Findings {
     }
 }
 
-/// 01: "one node, D = 60 and J = 0 unless said". Priority 1.
+/// What a case leaves unsaid: node 1 alone, no jitter, a deadline of 60 ticks.
+/// Priority 1.
 fn flow(number: i64, cost: i64, period: i64) -> Flow {
     Flow {
         number,
@@ -190,7 +191,7 @@ fn case_1(out: &mut Findings) {
     );
 }
 
-/// 01: "For case 4, whole".
+/// What `judge` prints, to the last byte. RULES, programs.
 fn case_4_text(out: &mut Findings) {
     let text = plan::judge_text(&plan::write(&set(&case_4())));
     out.same(
@@ -251,7 +252,7 @@ fn case_14(out: &mut Findings) {
     out.same("case 14, table", table, admitted([first].iter()));
 }
 
-/// "Errors that look right".
+/// Likely mistakes. RULES, cases.
 pub fn errors(out: &mut Findings) {
     let bound = |flows: &[Flow], i: usize| judge_set(&set(flows)).map(|f| f[i].bound);
     out.unlike("trying only t = -J", bound(&case_6(), 0), Ok(11));
@@ -262,8 +263,8 @@ pub fn errors(out: &mut Findings) {
     long_iteration(out);
 }
 
-/// 01: "in case 5, done to flow 1 alone, it gives 17 and 14; done to flow 2 it
-/// makes a period of 0." The exchanged plan has those figures and case 5 not.
+/// T and J exchanged in case 5: for flow 1 the bounds would be 17 and 14; flow
+/// 2 would have no period. The exchanged plan has those figures and case 5 not.
 fn exchanged(out: &mut Findings) {
     let [first, second] = case_5();
     let exchange = |f: &Flow| Flow {
@@ -329,12 +330,12 @@ mod tests {
     }
 
     #[test]
-    fn plans_tried_by_hand() {
+    fn the_rules_cases() {
         all_agree(cases);
     }
 
     #[test]
-    fn errors_that_look_right() {
+    fn likely_mistakes() {
         all_agree(errors);
     }
 

@@ -1,12 +1,12 @@
 //! Links and flows: their fields, their ranges, their bytes.
 
-/// 01: "a path of 1 to 8 distinct nodes".
+/// Nodes of the longest path. RULES, ranges.
 pub const NODES: usize = 8;
-/// 01: "The horizon H is 65,535."
+/// H, which no bound and no busy length may pass. RULES, ranges.
 pub const HORIZON: i64 = 65_535;
 /// Greatest cost and greatest link delay.
 pub const SMALL: i64 = 4_095;
-/// 01: "up to 16 flows".
+/// Flows of a full table. RULES, tables.
 pub const FLOWS: usize = 16;
 /// Body of a kind 02 record.
 pub const BODY: usize = 33;
@@ -35,7 +35,7 @@ impl Links {
         out
     }
 
-    /// Refusal 1: "Lmin > Lmax or Lmax > 4,095".
+    /// Not refusal 1: both delays in range and in order. RULES, refusals.
     pub fn allowed(&self) -> bool {
         self.least <= self.most && self.most <= SMALL
     }
@@ -67,8 +67,7 @@ pub struct Flow {
 }
 
 impl Record {
-    /// 01: "number, priority, T, J, D, path length (1), eight nodes (1 each),
-    /// eight costs (2 each)".
+    /// The fields of a record 02, one after another. RULES, the plan.
     pub fn from_bytes(body: &[u8]) -> Record {
         let mut nodes = [0; NODES];
         let mut costs = [0; NODES];
@@ -113,8 +112,8 @@ impl Record {
         })
     }
 
-    /// Not refusal 3: "T, D, path length, a used node or a cost out of range,
-    /// or an unused node or cost not 0". Every J of two bytes is in range.
+    /// Not refusal 3: every field in its range, and nothing but zeros behind
+    /// the path. RULES, refusals. Every J of two bytes is in range.
     fn in_range(&self) -> bool {
         if self.period == 0 || self.deadline == 0 {
             return false;
@@ -174,7 +173,7 @@ fn repeats(path: &[i64]) -> bool {
     (0..path.len()).any(|k| path[..k].contains(&path[k]))
 }
 
-/// A two-byte number, "the high byte first".
+/// A number of two bytes: 256 times the first, plus the second.
 pub fn two(bytes: &[u8], at: usize) -> i64 {
     i64::from(bytes[at]) * 256 + i64::from(bytes[at + 1])
 }

@@ -19,7 +19,7 @@ pub struct Front {
 /// A flow j that crosses the prefix.
 pub struct Meeting {
     pub flow: usize,
-    /// Place on j's path of f, "the first node of i on j's path".
+    /// Place on j's path of f, where i first comes upon that path.
     pub first: usize,
     /// Place on i's path of l (j higher) or of g (j equal).
     pub node: usize,
@@ -55,13 +55,15 @@ fn front(set: &Set, i: usize, place: usize) -> Front {
     }
 }
 
-/// 01: "l is the last node of i on j's path within the prefix".
+/// Term 1: l is the node of the prefix where i is last on j's path. RULES,
+/// starting time.
 fn higher_meeting(set: &Set, i: usize, j: usize, prefix: &[i64]) -> Option<Meeting> {
     let last = last_on(prefix, &set.flows[j].path)?;
     meeting(set, i, j, prefix, last)
 }
 
-/// 01: "g the first node that j visits on the prefix".
+/// Term 2: g is the node by which j comes upon the prefix. RULES, starting
+/// time.
 fn equal_meeting(set: &Set, i: usize, j: usize, prefix: &[i64]) -> Option<Meeting> {
     let first = first_on(&set.flows[j].path, prefix)?;
     meeting(set, i, j, prefix, first)
@@ -83,8 +85,8 @@ fn meeting(set: &Set, i: usize, j: usize, prefix: &[i64], node: i64) -> Option<M
     })
 }
 
-/// Costs at a node among i and those higher and equal flows that visit it and
-/// run along i on the prefix.
+/// What a packet of i, or of one that is at least as urgent and runs along i on
+/// the prefix, costs at a node.
 fn costs_along<'a>(
     set: &'a Set,
     i: usize,
@@ -96,9 +98,8 @@ fn costs_along<'a>(
         .filter_map(move |j| set.flows[j].cost_at(node))
 }
 
-/// 01, M(i,h): "sum, over the nodes k of i before h, of Lmin plus the least
-/// cost at k among i and those higher and equal flows that visit k and run
-/// along i on the whole path."
+/// M(i,h): at each node before h the shortest link and the cheapest such packet,
+/// the prefix being the whole path. RULES, starting time.
 fn least_progress(set: &Set, i: usize, place: usize) -> i64 {
     let path = &set.flows[i].path;
     let least = |k: i64| costs_along(set, i, path, k).min().unwrap_or(0);
@@ -108,8 +109,8 @@ fn least_progress(set: &Set, i: usize, place: usize) -> i64 {
         .sum()
 }
 
-/// Term 4: "for each node of the prefix but i's slowest: the greatest cost
-/// there among i and the higher and equal flows that run along i".
+/// Term 4: the dearest such packet at each node, apart from i's slowest node,
+/// which term 3 has counted. RULES, starting time.
 fn passing(set: &Set, i: usize, prefix: &[i64]) -> i64 {
     let slowest = slowest_place(&set.flows[i], prefix.len());
     let greatest = |node: i64| costs_along(set, i, prefix, node).max().unwrap_or(0);
@@ -119,8 +120,8 @@ fn passing(set: &Set, i: usize, prefix: &[i64]) -> i64 {
         .sum()
 }
 
-/// Term 5: "for each node of the prefix: the greatest cost there of a lower
-/// flow, less 1; zero if there is none".
+/// Term 5: at each node, a packet of a lower flow that began a tick earlier, the
+/// longest there is. RULES, starting time.
 fn blocking(set: &Set, i: usize, prefix: &[i64]) -> i64 {
     let greatest = |node: i64| {
         set.lower(i)

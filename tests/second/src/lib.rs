@@ -1,5 +1,6 @@
-//! A second program for network plans, written from document 01 alone. Nothing
-//! in it is taken from the library that it is held against.
+//! A second program for network plans, written from the rules alone. Nothing in
+//! it is taken from the library that it is held against. RULES in the comments
+//! is docs/RULES.md, with the heading of a section.
 
 pub mod arith;
 pub mod busy;

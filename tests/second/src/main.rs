@@ -11,7 +11,7 @@ second calls                    a sequence of calls on standard input
 second make-frames COUNT SEED   a corpus on standard output, counts on standard error
 second make-calls COUNT SEED    calls on standard output, counts on standard error
 second report frames|calls      counts of the answers to standard input
-second cases                    document 01's cases and errors
+second cases                    the rules' cases and likely mistakes
 ";
 
 fn main() -> io::Result<ExitCode> {

@@ -1,6 +1,6 @@
 //! Makes sequences of calls.
 
-use crate::calls::Call;
+use crate::calls::{Call, LONGEST};
 use crate::damage::{light, node_twice, out_of_range};
 use crate::deadlines::{fit, FITS};
 use crate::dice::Dice;
@@ -13,6 +13,8 @@ struct Stream {
     bytes: Vec<u8>,
     calls: usize,
     table: Table,
+    /// Admissions that would make a round dear are left out.
+    careful: bool,
     dice: Dice,
 }
 
@@ -26,6 +28,8 @@ enum Session {
     Fields,
     /// A table refused, then used.
     BadLinks,
+    /// Buffers of every kind, on tables of no flow to sixteen.
+    Buffers,
 }
 
 /// At least `count` calls after the first table; the last session is finished.
@@ -37,6 +41,7 @@ pub fn make(count: usize, seed: u64) -> Vec<u8> {
         bytes: links.bytes(),
         calls: 0,
         table,
+        careful: false,
         dice,
     };
     let roster = roster();
@@ -53,7 +58,12 @@ pub fn make(count: usize, seed: u64) -> Vec<u8> {
 }
 
 fn roster() -> Vec<Session> {
-    let others = [Session::Full, Session::Fields, Session::BadLinks];
+    let others = [
+        Session::Full,
+        Session::Fields,
+        Session::BadLinks,
+        Session::Buffers,
+    ];
     CHEAP
         .iter()
         .map(|r| Session::Grow(*r))
@@ -87,6 +97,7 @@ impl Stream {
             Session::Full => self.full(),
             Session::Fields => self.fields(),
             Session::BadLinks => self.bad_links(),
+            Session::Buffers => self.buffers(),
         }
     }
 
@@ -97,7 +108,15 @@ impl Stream {
     }
 
     fn admit(&mut self, flow: &Flow) {
-        self.call(Call::Admit(flow.record()));
+        if !(self.careful && self.dear_with(flow)) {
+            self.call(Call::Admit(flow.record()));
+        }
+    }
+
+    fn dear_with(&self, flow: &Flow) -> bool {
+        let mut set = self.table.set().clone();
+        set.flows.push(flow.clone());
+        sets::dear(&set)
     }
 
     fn grow(&mut self, recipe: Recipe) {
@@ -106,18 +125,44 @@ impl Stream {
         fit(&mut set, deadlines, &mut self.dice);
         self.call(Call::Fresh(set.links));
         self.dice.shuffle(&mut set.flows);
+        // Sets with more load than a node can carry are cheap only as a whole,
+        // by refusal 8.
+        self.careful = recipe == Recipe::Overload;
         for flow in &set.flows {
             self.admit(flow);
             self.between(&set.flows);
         }
         self.call(Call::Print);
+        self.lend();
         self.call(Call::Write);
+        if !set.flows.is_empty() {
+            self.after_plan(&set.flows);
+        }
+        self.careful = false;
     }
 
     /// A call, or none, between two admissions.
     fn between(&mut self, flows: &[Flow]) {
+        match self.dice.pick(0, 13) {
+            0..=9 => self.any_call(flows),
+            10 => {
+                self.call(Call::Write);
+                self.after_plan(flows);
+            }
+            _ => {}
+        }
+    }
+
+    /// Calls on the table that reading a written plan gave.
+    fn after_plan(&mut self, flows: &[Flow]) {
+        for _ in 0..self.dice.pick(0, 2) {
+            self.any_call(flows);
+        }
+    }
+
+    fn any_call(&mut self, flows: &[Flow]) {
         let k = self.dice.index(flows.len());
-        match self.dice.pick(0, 11) {
+        match self.dice.pick(0, 10) {
             0 => self.admit(&flows[k]),
             1 => self.ask_any(),
             2 => self.withdraw_any(),
@@ -125,8 +170,23 @@ impl Stream {
             4..=7 => self.present(Call::Ask),
             8 => self.call(Call::Print),
             9 => self.call(Call::Write),
-            _ => {}
+            _ => self.lend(),
         }
+    }
+
+    /// A buffer that is too short, just long enough, or longer.
+    fn lend(&mut self) {
+        let length = self.table.length();
+        let lent = match self.dice.pick(0, 9) {
+            0 => 0,
+            1 | 2 => length - 1,
+            3 => self.dice.index(length),
+            4..=6 => length,
+            7 => length + 1,
+            8 => length + self.dice.index(LONGEST + 1 - length),
+            _ => LONGEST,
+        };
+        self.call(Call::Lend(lent));
     }
 
     fn ask_any(&mut self) {
@@ -149,7 +209,7 @@ impl Stream {
     }
 
     /// Sixteen light flows; a seventeenth, one with a number that is there, one
-    /// out of range; then withdrawn room is used again.
+    /// out of range; then withdrawn room is used again, also after a plan.
     fn full(&mut self) {
         let links = sets::links(&mut self.dice, 5);
         self.call(Call::Fresh(links));
@@ -176,7 +236,13 @@ impl Stream {
         let last = light(numbers[FLOWS + 1], &mut self.dice);
         self.admit(&last);
         self.call(Call::Print);
+        self.lend();
         self.call(Call::Write);
+        self.lend();
+        self.admit(&last);
+        self.call(Call::Withdraw(numbers[1]));
+        self.admit(&last);
+        self.lend();
     }
 
     /// Flows with faults, beside flows that are there and with their numbers.
@@ -224,5 +290,53 @@ impl Stream {
         self.call(Call::Write);
         self.call(Call::Fresh(Links { least, most }));
         self.call(Call::Print);
+    }
+
+    /// The last of them follow a plan.
+    fn buffers(&mut self) {
+        let links = sets::links(&mut self.dice, 5);
+        self.call(Call::Fresh(links));
+        let mut numbers = self.dice.rising(FLOWS, 255);
+        self.dice.shuffle(&mut numbers);
+        for number in numbers {
+            if [0, 1, 2, 8].contains(&self.table.set().flows.len()) {
+                self.every_buffer();
+            }
+            let flow = light(number, &mut self.dice);
+            self.admit(&flow);
+        }
+        self.call(Call::Write);
+        self.every_buffer();
+    }
+
+    fn every_buffer(&mut self) {
+        let length = self.table.length();
+        for lent in [0, 1, length - 1, length, length + 1, LONGEST] {
+            self.call(Call::Lend(lent));
+        }
+    }
+}
+
+#[cfg(test)]
+mod tests {
+    use super::*;
+    use crate::calls::each;
+    use std::collections::BTreeSet;
+
+    #[test]
+    fn buffers_for_tables_of_no_flow_to_sixteen() {
+        let mut lent = BTreeSet::new();
+        let whole = each(&make(2_000, 1), |call, _, table| {
+            if let Call::Lend(length) = call {
+                lent.insert((*length, table.length()));
+            }
+            Ok(())
+        });
+        assert!(whole.unwrap());
+        for flows in [0, 1, 2, FLOWS] {
+            let length = 6 + 34 * flows;
+            let wanted = [0, length - 1, length, length + 1, LONGEST];
+            assert!(wanted.iter().all(|n| lent.contains(&(*n, length))));
+        }
     }
 }

@@ -13,19 +13,19 @@ pub fn last_on(walker: &[i64], ground: &[i64]) -> Option<i64> {
     walker.iter().rev().copied().find(|n| ground.contains(n))
 }
 
-/// 01: "A flow crosses the prefix if it visits a node of it."
+/// j and the prefix have a node in common. RULES, starting time.
 pub fn crosses(j: &Flow, prefix: &[i64]) -> bool {
     first_on(&j.path, prefix).is_some()
 }
 
-/// 01: "j runs along i if the first node that j visits on the prefix equals
-/// the first node that i visits on j's path."
+/// i and j come upon their common nodes of the prefix at the same one. RULES,
+/// starting time.
 pub fn runs_along(j: &Flow, prefix: &[i64]) -> bool {
     crosses(j, prefix) && first_on(&j.path, prefix) == first_on(prefix, &j.path)
 }
 
-/// 01: "Slowest cost of j on the prefix: its greatest cost at a node of the
-/// prefix." Zero if j does not cross it.
+/// The most that j costs at any node of the prefix (RULES, starting time);
+/// zero if j does not cross it.
 pub fn slowest_cost(j: &Flow, prefix: &[i64]) -> i64 {
     prefix
         .iter()
@@ -34,15 +34,14 @@ pub fn slowest_cost(j: &Flow, prefix: &[i64]) -> i64 {
         .unwrap_or(0)
 }
 
-/// 01: "i's slowest node is the earliest with that cost." Its place on the
-/// prefix of the given length.
+/// Where i first has its slowest cost on the prefix of the given length. RULES,
+/// starting time.
 pub fn slowest_place(i: &Flow, length: usize) -> usize {
     let greatest = slowest_cost(i, &i.path[..length]);
     i.costs.iter().position(|c| *c == greatest).unwrap_or(0)
 }
 
-/// 01: "every node of j's path between two of its nodes on i's path is itself
-/// on i's path".
+/// j never leaves i's path and comes back to it. RULES, crossing.
 pub fn stays(j: &Flow, i: &Flow) -> bool {
     let met: Vec<usize> = (0..j.path.len())
         .filter(|p| i.path.contains(&j.path[*p]))

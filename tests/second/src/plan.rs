@@ -29,7 +29,7 @@ pub fn read(plan: &[u8]) -> Result<Set, Refusal> {
             _ => return Err(Refusal::at(12, at)),
         }
     }
-    // 01: "After 7F, a further byte is 12 at its offset."
+    // Nothing may follow the end. RULES, the plan.
     if plan.len() > at + 1 {
         return Err(Refusal::at(12, at + 1));
     }
@@ -53,12 +53,12 @@ fn read_flow(plan: &[u8], at: usize, before: &[Flow]) -> Result<Flow, Refusal> {
     let body = plan.get(at + 1..at + 1 + BODY).ok_or(Refusal::at(12, at))?;
     let record = Record::from_bytes(body);
     let rising = before.last().is_none_or(|last| last.number < record.number);
-    // 01: "A flow number 0 is 2, not 12."
+    // Number 0, which cannot rise, has a refusal of its own. RULES, the plan.
     if record.number != 0 && !rising {
         return Err(Refusal::at(12, at));
     }
     let flow = record.flow().map_err(|number| Refusal::at(number, at))?;
-    // 01: "A seventeenth flow is 6."
+    // The fields are judged before the room for them. RULES, the plan.
     if before.len() == FLOWS {
         return Err(Refusal::at(6, at));
     }
@@ -89,7 +89,7 @@ pub fn line(figures: &Figures) -> String {
     )
 }
 
-/// A header, then a line a flow.
+/// The header and the lines of the flows.
 pub fn accepted_text(figures: &[Figures]) -> String {
     let mut out = String::from(HEADER);
     out.extend(figures.iter().map(line));

@@ -143,13 +143,16 @@ fn way(plan: &[u8], place: usize) -> &'static str {
     }
 }
 
-const ANSWERS: [(i64, &str); 18] = [
+/// "After P": the table is the one that reading a written plan gave.
+const ANSWERS: [(i64, &str); 34] = [
     (0, "fresh"),
     (0, "admitted"),
     (0, "withdrawn"),
     (0, "asked"),
     (0, "printed"),
     (0, "written"),
+    (0, "lent, exact length"),
+    (0, "lent, bytes left over"),
     (1, "fresh"),
     (2, "admit"),
     (3, "admit"),
@@ -162,6 +165,20 @@ const ANSWERS: [(i64, &str); 18] = [
     (10, "admit"),
     (11, "withdraw"),
     (11, "ask"),
+    (13, "lent, no byte"),
+    (13, "lent, one byte short"),
+    (13, "lent, shorter"),
+    (0, "admitted, after P"),
+    (0, "withdrawn, after P"),
+    (0, "asked, after P"),
+    (0, "printed, after P"),
+    (0, "written, after P"),
+    (0, "lent, exact length, after P"),
+    (0, "lent, bytes left over, after P"),
+    (5, "admit, after P"),
+    (11, "withdraw, after P"),
+    (11, "ask, after P"),
+    (13, "lent, one byte short, after P"),
 ];
 
 /// The kinds of answers of a sequence of calls.
@@ -170,12 +187,18 @@ pub fn of_calls(input: &[u8]) -> io::Result<Tally> {
         wanted: ANSWERS.to_vec(),
         ..Tally::default()
     };
-    let whole = calls::each(input, |call, answer| {
-        let (kind, done) = kind(call);
-        match refused(answer) {
-            Some(number) => tally.add(number, kind),
-            None => tally.add(0, done),
-        }
+    let mut after_plan = false;
+    let whole = calls::each(input, |call, answer, table| {
+        let refused = refused(answer);
+        let kind = match call {
+            Call::Lend(length) => room(*length, table.length()),
+            _ => kind(call, refused.is_some()),
+        };
+        after_plan &= !matches!(call, Call::Fresh(_));
+        let after = if after_plan { ", after P" } else { "" };
+        tally.add(refused.unwrap_or(0), &format!("{kind}{after}"));
+        let changes = matches!(call, Call::Admit(_) | Call::Withdraw(_)) && refused.is_none();
+        after_plan = after_plan && !changes || *call == Call::Write;
         Ok(())
     })?;
     if !whole {
@@ -184,15 +207,31 @@ pub fn of_calls(input: &[u8]) -> io::Result<Tally> {
     Ok(tally)
 }
 
-/// The name of a call, and that of its success.
-fn kind(call: &Call) -> (&'static str, &'static str) {
-    match call {
+/// A lent buffer beside the plan's length.
+fn room(lent: usize, length: usize) -> &'static str {
+    match lent {
+        0 => "lent, no byte",
+        _ if lent + 1 == length => "lent, one byte short",
+        _ if lent < length => "lent, shorter",
+        _ if lent == length => "lent, exact length",
+        _ => "lent, bytes left over",
+    }
+}
+
+/// The name of a call, refused or not.
+fn kind(call: &Call, refused: bool) -> &'static str {
+    let (asked, done) = match call {
         Call::Fresh(_) => ("fresh", "fresh"),
         Call::Admit(_) => ("admit", "admitted"),
         Call::Withdraw(_) => ("withdraw", "withdrawn"),
         Call::Ask(_) => ("ask", "asked"),
         Call::Print => ("print", "printed"),
-        Call::Write => ("write", "written"),
+        Call::Write | Call::Lend(_) => ("write", "written"),
+    };
+    if refused {
+        asked
+    } else {
+        done
     }
 }
 

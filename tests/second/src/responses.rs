@@ -36,7 +36,7 @@ struct Node {
 
 impl Node {
     fn new(i: usize, own: &Flow, place: usize, front: &Front, arrivals: &Arrivals) -> Node {
-        // 01: "A(i,j) = S(j,f) − M(i,f) + J of j".
+        // S(j,f) is what A(i,j) has beside J and M. RULES, starting time.
         let load = |m: &Meeting, more: i64| Load {
             base: m.shift + arrivals[m.flow][m.first] + more,
             period: m.period,
@@ -57,15 +57,15 @@ impl Node {
         }
     }
 
-    /// 01: "the least whole number W ≥ 0 equal to the sum". `starts[k]` is
-    /// W(i,k,t) for earlier nodes k; `starts[place]` is a number at most the
-    /// answer, from which the iteration rises. None: W + C − t passes the
-    /// horizon.
+    /// W(i,h,t), the least number that its own sum gives back. RULES, starting
+    /// time. `starts[k]` is W(i,k,t) for earlier nodes k; `starts[place]` is a
+    /// number at most the answer, from which the iteration rises. None: W + C −
+    /// t passes the horizon.
     fn start(&self, t: i64, starts: &[i64]) -> Option<i64> {
         let steady = self.equal.iter().map(|e| e.at(t)).sum::<i64>() + self.fixed;
         let mut w = starts[self.place];
         loop {
-            // 01: "V is W if l = h, otherwise W(i,l,t)".
+            // V: the start at l, whether that is here or was earlier.
             let v = |l: usize| if l == self.place { w } else { starts[l] };
             let urgent = self
                 .higher
@@ -86,8 +86,9 @@ impl Node {
 
 /// Response bounds of i at its nodes; None if one of them passes the horizon.
 ///
-/// By lemma 3 the instants −J ≤ t < −J + B decide: W at t + B is at most W at
-/// t, plus B, so that no later instant gives more than an earlier one.
+/// The instants −J ≤ t < −J + B decide: over a busy length W grows by no more
+/// than B, so that no later instant gives more than an earlier one. RULES, busy
+/// length.
 pub fn responses(
     i: usize,
     own: &Flow,

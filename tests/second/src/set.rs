@@ -9,8 +9,8 @@ pub struct Set {
     pub flows: Vec<Flow>,
 }
 
-/// 01: '"higher", "equal" and "lower" flows are by priority; equal leaves out
-/// i.' Flows are meant by their place in the set.
+/// The greater priority is the more urgent (RULES, ranges), and no flow is its
+/// own equal. Flows are meant by their place in the set.
 impl Set {
     pub fn higher(&self, i: usize) -> impl Iterator<Item = usize> + '_ {
         let own = self.flows[i].priority;
@@ -27,15 +27,16 @@ impl Set {
         (0..self.flows.len()).filter(move |j| self.flows[*j].priority < own)
     }
 
-    /// i and the higher and equal flows.
+    /// i and all that are at least as urgent.
     pub fn urgent(&self, i: usize) -> impl Iterator<Item = usize> + '_ {
         std::iter::once(i)
             .chain(self.higher(i))
             .chain(self.equal(i))
     }
 
-    /// 01, Smin: "sum, over the nodes of j before h, of C + Lmin. Zero at j's
-    /// first node." The node is given by its place on j's path.
+    /// Smin(j,h): how long j takes to h if it never waits and every link is at
+    /// its shortest. RULES, starting time. The node is given by its place on
+    /// j's path.
     pub fn least_arrival(&self, j: usize, place: usize) -> i64 {
         self.flows[j].costs[..place]
             .iter()
@@ -43,7 +44,8 @@ impl Set {
             .sum()
     }
 
-    /// 01: jitter is "the bound less the sum of its costs and (nodes − 1) × Lmin".
+    /// What the bound has over the shortest way through the whole path. RULES,
+    /// starting time.
     pub fn jitter(&self, i: usize, bound: i64) -> i64 {
         let flow = &self.flows[i];
         let hops = flow.path.len() as i64 - 1;

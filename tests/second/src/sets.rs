@@ -336,9 +336,14 @@ fn price(set: &Set) -> i64 {
         .sum()
 }
 
+/// A round takes long.
+pub fn dear(set: &Set) -> bool {
+    price(set) > 60_000
+}
+
 /// Makes periods longer and costs smaller until a round is cheap.
 pub fn cheapen(set: &mut Set) {
-    while price(set) > 60_000 {
+    while dear(set) {
         for flow in &mut set.flows {
             flow.period = (flow.period * 5 / 4).min(HORIZON);
             for cost in &mut flow.costs {

@@ -24,8 +24,8 @@ impl Table {
         }
     }
 
-    /// 01: "A fresh table refused with 1 ... is the empty one with both link
-    /// delays 0."
+    /// Delays that are refused leave an empty table with no delay at all. RULES,
+    /// tables.
     pub fn fresh(links: Links) -> (Table, Option<Refusal>) {
         if links.allowed() {
             (Table::empty(links), None)
@@ -34,8 +34,15 @@ impl Table {
         }
     }
 
-    /// Refusals 2 to 10, "the last four over the enlarged set"; a refusal
-    /// leaves the table as it was.
+    /// The table that a plan gives, or the plan's refusal.
+    pub fn of_plan(bytes: &[u8]) -> Result<Table, Refusal> {
+        let set = plan::read(bytes)?;
+        let figures = judge_set(&set)?;
+        Ok(Table { set, figures })
+    }
+
+    /// Refusals 2 to 10, of which 7 to 10 judge the flows with the new one among
+    /// them; a refusal leaves the table as it was. RULES, refusals.
     pub fn admit(&mut self, record: &Record) -> Result<(), Refusal> {
         let flow = record.flow().map_err(Refusal::plain)?;
         if self.place(flow.number).is_some() {
@@ -67,13 +74,15 @@ impl Table {
         Ok(self.figures[place])
     }
 
-    /// 01: "A table of n flows is written in 6 + 34 × n bytes".
+    /// Bytes of the plan: 5 for the links, 34 for each flow, 1 for the end.
+    /// RULES, writing.
     pub fn length(&self) -> usize {
         6 + 34 * self.set.flows.len()
     }
 
-    /// 01: "writing returns that length. A buffer that long or longer gets them
-    /// at its start and keeps the rest."
+    /// Puts the plan at the start of the buffer, whose other bytes stay, and
+    /// gives its length. A buffer that is too short stays as it is. RULES,
+    /// writing.
     pub fn write(&self, buffer: &mut [u8]) -> Result<usize, Refusal> {
         let room = buffer.get_mut(..self.length()).ok_or(Refusal::plain(13))?;
         room.copy_from_slice(&plan::write(&self.set));

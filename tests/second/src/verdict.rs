@@ -7,7 +7,7 @@ use crate::refusal::Refusal;
 use crate::responses::{responses, Arrivals};
 use crate::set::Set;
 
-/// 01: "Asking for a flow gives bound, jitter and busy length."
+/// What is told of a flow that was accepted. RULES, tables.
 #[derive(Clone, Copy, Debug, PartialEq, Eq)]
 pub struct Figures {
     pub number: i64,
@@ -112,8 +112,8 @@ fn round(
         .collect()
 }
 
-/// 01, S: "Zero at the first node; elsewhere the response bound at the node
-/// before, plus Lmax."
+/// S: at once at the first node; at each other, the longest link after what was
+/// the bound one node earlier. RULES, arrival bounds.
 fn arrivals_after(set: &Set, bounds: &[i64]) -> Vec<i64> {
     let later = bounds[..bounds.len() - 1]
         .iter()

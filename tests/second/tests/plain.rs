@@ -1,12 +1,12 @@
-//! The formula once more, as slowly and as near to document 01's words as can
-//! be: nothing is worked out ahead, W is looked for by trying 0, 1, 2, ...,
-//! instants go on for three busy lengths, and arrival bounds are raised one by
-//! one. It has to agree with the program on small sets; a set that turns out to
-//! be long is left out.
+//! The formula once more, as slowly and as near to the rules (RULES, starting
+//! time) as can be: nothing is worked out ahead, W is looked for by trying 0, 1,
+//! 2, ..., instants go on for three busy lengths, and arrival bounds are raised
+//! one by one. It has to agree with the program on small sets; a set that turns
+//! out to be long is left out.
 
 use second::busy::busy;
 use second::dice::Dice;
-use second::flow::{Flow, HORIZON};
+use second::flow::{Flow, Links, HORIZON};
 use second::set::Set;
 use second::sets::{self, Recipe};
 use second::verdict::{judge_set, Figures};
@@ -21,8 +21,29 @@ type Refused = (i64, i64);
 /// S by flow number and node.
 type Arrivals = HashMap<(i64, i64), i64>;
 
+/// The rules as they are meant, or one place of them misread.
+#[derive(Clone, Copy, Debug, PartialEq)]
+enum Reading {
+    Right,
+    /// Term 1: l is the last in j's order, not in i's.
+    LastOfTheOther,
+    /// Term 2 without Smin(j,g).
+    NoLeastArrival,
+    /// Term 3: i's slowest cost on its whole path.
+    OwnWholeCost,
+    /// Term 4: all nodes but i's slowest on its whole path.
+    OwnWholeNode,
+    /// Term 1: V is W at the node before h where l is not h.
+    StartJustBefore,
+    /// Term 4: running along is judged on all of i's path.
+    AlongWholePath,
+    /// M: the costs of i alone.
+    OwnProgress,
+}
+
 struct Plain<'a> {
     set: &'a Set,
+    reading: Reading,
     arrivals: Arrivals,
 }
 
@@ -74,6 +95,15 @@ fn slowest(j: &Flow, prefix: &[i64]) -> i64 {
         .expect("a crossing flow")
 }
 
+/// The earliest node with the slowest cost.
+fn slowest_node(i: &Flow, prefix: &[i64]) -> i64 {
+    let slow = prefix
+        .iter()
+        .find(|n| cost(i, **n) == slowest(i, prefix))
+        .expect("a node of the path");
+    *slow
+}
+
 impl Plain<'_> {
     fn urgent<'b>(&'b self, i: &'b Flow) -> impl Iterator<Item = &'b Flow> {
         let others = self.set.flows.iter();
@@ -96,6 +126,7 @@ impl Plain<'_> {
             let along = self
                 .urgent(i)
                 .filter(|j| visits(j, k) && runs_along(j, &i.path))
+                .filter(|_| self.reading != Reading::OwnProgress)
                 .map(|j| cost(j, k));
             along.chain([cost(i, k)]).min().expect("i itself")
         };
@@ -118,28 +149,36 @@ impl Plain<'_> {
             .filter(|j| first_of(&j.path, &prefix).is_some())
         {
             let x = if j.priority > i.priority {
-                let l = *prefix
-                    .iter()
-                    .rev()
-                    .find(|n| visits(j, **n))
-                    .expect("a crossing flow");
-                let v = if l == h { w } else { self.w(i, l, t)? };
+                let l = self.last(j, &prefix);
+                let v = if l == h { w } else { self.v(i, l, h, t)? };
                 v - self.smin(j, l)
             } else {
                 let g = first_of(&j.path, &prefix).expect("a crossing flow");
-                t + self.s(i, g) - self.smin(j, g)
+                let least = match self.reading {
+                    Reading::NoLeastArrival => 0,
+                    _ => self.smin(j, g),
+                };
+                t + self.s(i, g) - least
             };
             sum += count(x + self.a(i, j), j.period) * slowest(j, &prefix);
         }
-        sum += count(t + i.jitter, i.period) * slowest(i, &prefix);
-        let slow = *prefix
-            .iter()
-            .find(|n| cost(i, **n) == slowest(i, &prefix))
-            .expect("the slowest node");
+        let own = match self.reading {
+            Reading::OwnWholeCost => slowest(i, &i.path),
+            _ => slowest(i, &prefix),
+        };
+        sum += count(t + i.jitter, i.period) * own;
+        let slow = match self.reading {
+            Reading::OwnWholeNode => slowest_node(i, &i.path),
+            _ => slowest_node(i, &prefix),
+        };
+        let ground = match self.reading {
+            Reading::AlongWholePath => &i.path,
+            _ => &prefix,
+        };
         for k in prefix.iter().filter(|k| **k != slow) {
             let along = self
                 .urgent(i)
-                .filter(|j| visits(j, *k) && runs_along(j, &prefix))
+                .filter(|j| visits(j, *k) && runs_along(j, ground))
                 .map(|j| cost(j, *k));
             sum += along.chain([cost(i, *k)]).max().expect("i itself");
         }
@@ -152,6 +191,26 @@ impl Plain<'_> {
             sum += lower.map(|j| cost(j, *k) - 1).max().unwrap_or(0);
         }
         Some(sum + (prefix.len() as i64 - 1) * self.set.links.most - cost(i, h))
+    }
+
+    /// l: the last node of the prefix that j visits.
+    fn last(&self, j: &Flow, prefix: &[i64]) -> i64 {
+        let last = match self.reading {
+            Reading::LastOfTheOther => j.path.iter().rev().find(|n| prefix.contains(n)),
+            _ => prefix.iter().rev().find(|n| visits(j, **n)),
+        };
+        *last.expect("a crossing flow")
+    }
+
+    /// V where l is not h.
+    fn v(&self, i: &Flow, l: i64, h: i64, t: i64) -> Option<i64> {
+        match self.reading {
+            Reading::StartJustBefore => {
+                let earlier = before(&i.path, h);
+                self.w(i, earlier[earlier.len() - 1], t)
+            }
+            _ => self.w(i, l, t),
+        }
     }
 
     fn w(&self, i: &Flow, h: i64, t: i64) -> Option<i64> {
@@ -222,9 +281,10 @@ impl Plain<'_> {
 }
 
 /// None: the set is too long.
-fn figures(set: &Set) -> Option<Result<Vec<Figures>, Refused>> {
+fn figures(set: &Set, reading: Reading) -> Option<Result<Vec<Figures>, Refused>> {
     let mut plain = Plain {
         set,
+        reading,
         arrivals: Arrivals::new(),
     };
     if let Some(i) = set.flows.iter().find(|i| plain.left_and_met_again(i)) {
@@ -284,7 +344,7 @@ fn agree(recipe: Recipe, seed: u64, times: usize) {
         if !easy(&set) {
             continue;
         }
-        let Some(wanted) = figures(&set) else {
+        let Some(wanted) = figures(&set, Reading::Right) else {
             continue;
         };
         tried += 1;
@@ -328,4 +388,130 @@ fn bounds_at_the_horizon() {
     agree(Recipe::LateBound, 7, 150);
     agree(Recipe::LateDrop, 8, 150);
     agree(Recipe::FarJitter, 9, 100);
+}
+
+/// Number, priority, T, path, costs.
+type Row = (i64, i64, i64, &'static [i64], &'static [i64]);
+
+fn set(most: i64, rows: &[Row]) -> Set {
+    let flow = |r: &Row| Flow {
+        number: r.0,
+        priority: r.1,
+        period: r.2,
+        jitter: 0,
+        deadline: 1_000,
+        path: r.3.to_vec(),
+        costs: r.4.to_vec(),
+    };
+    Set {
+        links: Links { least: 1, most },
+        flows: rows.iter().map(flow).collect(),
+    }
+}
+
+/// Bound, jitter, busy.
+type Three = (i64, i64, i64);
+
+/// The program and the slow way give the figures; the reading, if the set is
+/// read so, gives other bounds.
+fn tells_apart(set: &Set, right: [Three; 3], readings: &[(Reading, [i64; 3])]) {
+    let threes = |all: &[Figures]| -> Vec<Three> {
+        all.iter().map(|f| (f.bound, f.jitter, f.busy)).collect()
+    };
+    let given = judge_set(set).expect("a set with figures");
+    assert_eq!(threes(&given), right);
+    assert_eq!(figures(set, Reading::Right), Some(Ok(given)));
+    for (reading, wrong) in readings {
+        let misread = figures(set, *reading).expect("a short set");
+        let misread = misread.expect("a set with figures");
+        let bounds: Vec<i64> = misread.iter().map(|f| f.bound).collect();
+        assert_eq!(bounds, wrong, "{reading:?}");
+        assert_ne!(threes(&misread), right, "{reading:?}");
+    }
+}
+
+/// The sets of tests/cases that tell the rules from a reading near to them.
+#[test]
+fn near_readings() {
+    let a = set(
+        1,
+        &[
+            (1, 0, 9, &[1, 2, 4, 3], &[1, 2, 2, 3]),
+            (2, 1, 12, &[3, 2, 1], &[1, 2, 1]),
+            (3, 1, 10, &[3, 4], &[2, 2]),
+        ],
+    );
+    tells_apart(
+        &a,
+        [(21, 10, 7), (12, 6, 4), (9, 4, 3)],
+        &[(Reading::LastOfTheOther, [15, 12, 9])],
+    );
+    let b = set(
+        2,
+        &[
+            (1, 0, 10, &[4, 2, 1, 3], &[3, 3, 3, 2]),
+            (2, 1, 20, &[2, 1], &[1, 1]),
+            (3, 0, 17, &[1, 3], &[1, 2]),
+        ],
+    );
+    tells_apart(
+        &b,
+        [(20, 6, 6), (8, 5, 1), (11, 7, 6)],
+        &[(Reading::NoLeastArrival, [20, 8, 14])],
+    );
+    let c = set(
+        2,
+        &[
+            (1, 1, 8, &[2, 4, 3, 1], &[3, 1, 3, 2]),
+            (2, 0, 11, &[1, 4, 3, 2], &[1, 1, 3, 1]),
+            (3, 0, 12, &[3, 2, 4, 1], &[1, 2, 3, 3]),
+        ],
+    );
+    tells_apart(
+        &c,
+        [(22, 10, 3), (75, 66, 21), (72, 60, 21)],
+        &[
+            (Reading::OwnWholeCost, [22, 79, 78]),
+            (Reading::OwnWholeNode, [22, 79, 78]),
+        ],
+    );
+    let d = set(
+        1,
+        &[
+            (1, 0, 18, &[2, 1, 3, 4], &[3, 2, 3, 2]),
+            (2, 1, 12, &[2], &[3]),
+            (3, 1, 16, &[2, 3, 1, 4], &[2, 2, 2, 3]),
+        ],
+    );
+    tells_apart(
+        &d,
+        [(20, 7, 9), (7, 4, 5), (22, 10, 6)],
+        &[(Reading::StartJustBefore, [23, 7, 22])],
+    );
+    let e = set(
+        2,
+        &[
+            (1, 1, 16, &[1], &[3]),
+            (2, 1, 16, &[1, 4, 3, 2], &[2, 1, 3, 3]),
+            (3, 1, 12, &[3, 4], &[1, 2]),
+        ],
+    );
+    tells_apart(
+        &e,
+        [(5, 2, 5), (23, 11, 8), (11, 7, 5)],
+        &[(Reading::AlongWholePath, [5, 23, 10])],
+    );
+    let f = set(
+        2,
+        &[
+            (1, 0, 18, &[2, 1, 4], &[3, 3, 1]),
+            (2, 1, 20, &[2, 4, 1, 3], &[2, 1, 2, 2]),
+            (3, 0, 19, &[4, 1], &[1, 3]),
+        ],
+    );
+    tells_apart(
+        &f,
+        [(17, 8, 8), (17, 7, 2), (12, 7, 8)],
+        &[(Reading::OwnProgress, [16, 17, 12])],
+    );
 }
