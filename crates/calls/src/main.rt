@@ -1,10 +1,17 @@
-// Answers the calls on standard input: Lmin and Lmax, then A, W, Q, T, P or N and what belongs to it, one after the other.
+// Answers the calls on standard input: Lmin and Lmax, then A, W, Q, T, P, B or N and what belongs to it, one after the other.
+// After P the table is the one that the written plan gives when it is read.
 use flows::Answer;
 use flows::Asked;
 use flows::Table;
 use libc::STDIN_FILENO;
 use plan::Written;
-ghost use Prim.Native.Nat.{_<_};
+ghost use Prim.Native.Nat.{_<_, _≤_};
+ghost use lib.ListN.{length};
+
+// A buffer that B lends has at most LENT bytes, each UNTOUCHED.
+const LENT: usize = 900;
+
+const UNTOUCHED: u8 = 0xa5;
 
 // The table after a call, and whether calls go on.
 struct Turn {
@@ -108,14 +115,52 @@ fn print_bytes(bytes: &[u8], n: usize) {
     show::put(b"\n");
 }
 
+// Goes on with the table of the plan in the first n bytes.
+fn read_table(bytes: &[u8], n: usize) -> Turn
+    requires { ⌜ n ≤ length (now bytes) ⌝ }
+{
+    print_bytes(bytes, n);
+    tell(plans::read_plan(&bytes[..n]), b"")
+}
+
 // 550 bytes hold any table.
 fn write_table(t: Table) -> Turn {
     let mut buffer = [0u8; 550];
     let written = plans::write_plan(&mut buffer, t);
     match written {
-        Written::Length(n) => print_bytes(&buffer, n),
+        Written::Length(n) => read_table(&buffer, n),
+        Written::Refused(r) => {
+            show::print_refusal(r);
+            go_on(t)
+        }
+    }
+}
+
+// What writing into lent bytes answers, and then the bytes.
+fn write_into(bytes: &mut [u8], t: Table) {
+    let written = plans::write_plan(bytes, t);
+    match written {
+        Written::Length(n) => show::print_length(n),
         Written::Refused(r) => show::print_refusal(r),
     }
+    print_bytes(bytes, bytes.len());
+}
+
+fn join(high: u8, low: u8) -> usize {
+    (high as usize) * 256 + (low as usize)
+}
+
+fn lend_buffer(t: Table) -> Turn {
+    let mut body = [0u8; 2];
+    if io::read_full(STDIN_FILENO, &mut body) < 2 {
+        return stop(t);
+    }
+    let n = join(body[0], body[1]);
+    if n > LENT {
+        return stop(t);
+    }
+    let mut buffer = [UNTOUCHED; LENT];
+    write_into(&mut buffer[..n], t);
     go_on(t)
 }
 
@@ -126,6 +171,7 @@ fn call(kind: u8, t: Table) -> Turn {
         b'Q' => ask_flow(t),
         b'T' => print_table(t),
         b'P' => write_table(t),
+        b'B' => lend_buffer(t),
         b'N' => make_table(t),
         _ => stop(t),
     }

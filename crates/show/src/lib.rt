@@ -48,6 +48,11 @@ pub fn print_refusal(r: Refusal) {
     put(b"\n");
 }
 
+pub fn print_length(n: usize) {
+    put_number(n as u64);
+    put(b"\n");
+}
+
 // The table of an accepted plan, or the refusal.
 pub fn print_plan(plan: &[u8]) {
     let answer = plans::read_plan(plan);
