@@ -19,7 +19,7 @@ use Rattle.rules.specs.Valid.{Valid}
 use Rattle.rules.specs.Judge.{busyLength, response, figures, misplaced, firstOr, settledJudged, loadJudged, judged}
 use Rattle.rules.proofs.Busy.{Ready}
 use Rattle.rules.proofs.Valid.{sound}
-use Rattle.rules.proofs.Judge.{settles-by, settles-is, settles-unique}
+use Rattle.rules.proofs.Judge.{settles-by, settles-is, settles-unique, judged-is, judged-unique}
 use Rattle.flows.specs.declared.Figures.{Figures}
 use Rattle.flows.specs.declared.Row.{Row}
 use Rattle.flows.specs.declared.Cause.the-variants.{Accepted, Crossing, NoBusyLength, Unsettled, PastDeadline}
@@ -32,7 +32,7 @@ use Rattle.sheets.proofs.Places.{flow-here}
 use Rattle.settle.specs.Turns.{SettleIs}
 use Rattle.settle.proofs.Steps.{member-place}
 use Rattle.engine.specs.declared.Verdict.{Verdict}
-use Rattle.engine.specs.Verdicts.{noFigures, asFigures, causeOf, refused, given, verdictFrom, verdictOf}
+use Rattle.engine.specs.Verdicts.{noFigures, asFigures, causeOf, refused, given, verdictFrom, verdictOf, Meant}
 use Rattle.engine.specs.Firsts.{FirstIs, placed, FiguresUpTo, deadlineAt, boundAt, DeadlinesIs}
 use Rattle.engine.proofs.Firsts.{at-place}
 
@@ -89,6 +89,11 @@ module _ (lmin lmax : ℕ) (row : Row) (val : Valid (netOf lmin lmax row)) where
 
   count : length (N .flows) ≡ length (held row)
   count = length-map (held row) flowOf
+
+  -- The verdict is that of the judgement which is meant, and no other is
+  pub judge-meant : (v : Verdict) → v ≡ verdictOf lmin lmax row → Meant N v
+  unfolding verdictOf
+  judge-meant v e = record { judgement = judged N; meant = judged-is N val; said = e; only = λ w j. judged-unique N val w (judged N) j (judged-is N val) }
 
   -- 7
   pub crossing-judged : (r : ℕ) → FirstIs (λ k. misplaced N (flowAt N k)) (length (held row)) r → r < length (held row) →

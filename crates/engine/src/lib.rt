@@ -18,7 +18,7 @@ ghost use Rattle.flows.specs.Lists.{mostFlows, pathOf, held, netOf};
 ghost use Rattle.starts.specs.Sheet.{mostTime, values};
 ghost use Rattle.starts.specs.Runs.{Low, LowTo};
 ghost use Rattle.sheets.specs.Fields.{flowAt};
-ghost use Rattle.engine.specs.Verdicts.{noFigures, refused, verdictFrom, verdictOf};
+ghost use Rattle.engine.specs.Verdicts.{noFigures, refused, verdictFrom, verdictOf, Meant};
 ghost use Rattle.engine.specs.Firsts.{FirstIs, placed, figureOf, FiguresUpTo, deadlineAt, boundAt, DeadlinesIs};
 
 // Accepted with the figures of each flow in the row's order; or the refusal, and figures of 0.
@@ -205,6 +205,7 @@ fn judge_load(row: Row, lmin: u16, lmax: u16) -> Verdict
 // 7 to 10 with the flow named, or the figures of each flow.
 pub fn judge(row: Row, lmin: u16, lmax: u16) -> Verdict
     ensures { λ r. ⌜ (Valid (netOf lmin lmax row) → r ≡ verdictOf lmin lmax row) ⌝ }
+    ensures { λ r. ⌜ (Valid (netOf lmin lmax row) → Meant (netOf lmin lmax row) r) ⌝ }
 {
     let misplaced = first_misplaced(row);
     if misplaced < row::size(row) {

@@ -1,7 +1,7 @@
 -- A law for each way out of the tests.
 use Prim.Native.Nat.{ℕ, _<_, _≤_}
-use mathlib.Core.Path.{_≡_, refl, ap}
-use mathlib.Core.Bool.{Bool, true, false, cond, not, _||_, false≢true}
+use mathlib.Core.Path.{_≡_, refl, sym, ap, _∙_}
+use mathlib.Core.Bool.{Bool, true, false, not, false≢true}
 use native.Mathlib.Omega.{arith}
 use lib.Dec.{leb, ltb, eqb}
 use borrow.Author.Tests.{eq-eqb, ne-eqb, lt-ltb, le-ltb, le-leb, lt-leb, not-true, not-false, ltb-false}
@@ -115,3 +115,13 @@ accepted-only (PastDeadline flow) e = absurd (false≢true e)
 accepted-only Absent e = absurd (false≢true e)
 accepted-only Malformed e = absurd (false≢true e)
 accepted-only ShortBuffer e = absurd (false≢true e)
+
+pub not-accepted : (cause : Cause) → (cause ≡ Accepted → ⊥) → acceptedBy cause ≡ false
+not-accepted cause never = go (acceptedBy cause) refl
+  where
+    go : (b : Bool) → acceptedBy cause ≡ b → acceptedBy cause ≡ false
+    go true e = absurd (never (accepted-only cause e))
+    go false e = e
+
+pub refused-never : (cause : Cause) → acceptedBy cause ≡ false → cause ≡ Accepted → ⊥
+refused-never cause e h = false≢true (sym e ∙ ap acceptedBy h)

@@ -1,10 +1,11 @@
 -- A well-formed flow is determined by the rules' flow that it stands for: unused places are zero.
-use Prim.Native.Nat.{ℕ, zero, suc, _<_}
+use Prim.Native.Nat.{ℕ, _<_}
 use mathlib.Core.Path.{_≡_, refl, sym, ap, _∙_}
 use mathlib.Core.Bool.{Bool, true, false}
-use mathlib.Core.List.{List, [], _∷_}
+use mathlib.Core.List.{List}
 use native.Mathlib.Omega.{arith}
 use lib.ListN.{length, getD}
+use lib.Seq.{ext-getD}
 use lib.Dec.{ltb}
 use borrow.Author.Tests.{ltb-true, ltb-false}
 use Rattle.rules.specs.Net as net
@@ -12,12 +13,6 @@ use Rattle.flows.specs.declared.Flow.{Flow}
 use Rattle.flows.specs.Lists.{pathOf, flowOf}
 use Rattle.flows.specs.WellFormed.{WellFormed, Typed}
 use Rattle.flows.proofs.Arrays.{nowhere, path-short, path-at}
-
-same-list : (l m : List ℕ) → length l ≡ length m → ((k : ℕ) → getD l k 0 ≡ getD m k 0) → l ≡ m
-same-list [] [] e g = refl
-same-list [] (y ∷ m) e g = absurd (omega arith)
-same-list (x ∷ l) [] e g = absurd (omega arith)
-same-list (x ∷ l) (y ∷ m) e g = let h : l ≡ m = same-list l m (omega arith) (λ k. g (suc k)) in rw (g 0, h)
 
 module _ (f g : Flow) (t : Typed f) (u : Typed g) (v : WellFormed f) (w : WellFormed g) (e : flowOf f ≡ flowOf g) where
   path : pathOf f ≡ pathOf g
@@ -50,8 +45,8 @@ module _ (f g : Flow) (t : Typed f) (u : Typed g) (v : WellFormed f) (w : WellFo
   pub same-flow : f ≡ g
   unfolding hop
   same-flow =
-      let nodes = same-list (f .nodes) (g .nodes) (t .nodes ∙ sym (u .nodes)) (λ k. ap (λ (h : net.Hop). h .node) (each k)) in
-      let costs = same-list (f .costs) (g .costs) (t .costs ∙ sym (u .costs)) (λ k. ap (λ (h : net.Hop). h .cost) (each k)) in
+      let nodes = ext-getD 0 (f .nodes) (g .nodes) (t .nodes ∙ sym (u .nodes)) (λ k h. ap (λ (x : net.Hop). x .node) (each k)) in
+      let costs = ext-getD 0 (f .costs) (g .costs) (t .costs ∙ sym (u .costs)) (λ k h. ap (λ (x : net.Hop). x .cost) (each k)) in
       λ x. record {
         number = e x .number;
         priority = e x .priority;

@@ -1,3 +1,4 @@
 -- The laws of `host`.
 pub mod Numbers
 pub mod Zero
+pub mod Promises

@@ -17,10 +17,10 @@ use Rattle.flows.specs.Refusals.{numberOf, acceptedBy, flowNamed}
 use Rattle.flows.specs.Lists.{held, flowOf, tableNet}
 use Rattle.flows.proofs.Causes.{accepted-only}
 use Rattle.row.proofs.Arrays.{held-rowOf}
-use Rattle.records.proofs.RoundTrip.{Bytes}
+use Rattle.records.specs.Bodies.{Bytes}
 use Rattle.table.specs.Calls.{emptyTable, askedFor}
 use Rattle.table.specs.Made.{Made}
-use Rattle.table.specs.Demands.{Present}
+use Rattle.table.specs.Demands.{Present, Unused}
 use Rattle.table.proofs.Figures.{made-valid, made-figured}
 use Rattle.table.proofs.Calls.{ask-refused}
 use Rattle.plans.specs.Plans.{planAnswer}
@@ -61,23 +61,19 @@ made-bound t m f p =
     omega (arith, costs-some (flowOf f) r, jitter-exact (tableNet t) (flowOf f) (v .links) r (g .arrivals) (s .shown .bound) (s .right .bound))
 
 module _ (b : List ℕ) (n : ℕ) where
-  -- no flow of that number
-  pub Lacks : Type 0
-  Lacks = (f : Flow) → Present (planAnswer b .table) f → f .number ≡ n → ⊥
-
-  pub lacks-zero : Lacks → planBound b n ≡ 0
-  unfolding planBound boundOf Lacks
+  pub lacks-zero : Unused (planAnswer b .table) n → planBound b n ≡ 0
+  unfolding planBound boundOf
   lacks-zero a = ap boundOf (ask-refused (planAnswer b .table) n a)
 
   pub refused-zero : acceptedBy (planAnswer b .cause) ≡ false → planBound b n ≡ 0
-  unfolding Lacks emptyTable
+  unfolding emptyTable
   refused-zero h = lacks-zero (λ f p q. List·Memᴰ·not-nil (subst (λ (l : List Flow). List·Memᴰ f l) none p))
     where
       none : held (planAnswer b .table .row) ≡ []
       none = ap (λ (t : Table). held (t .row)) (refused-table b h) ∙ held-rowOf []
 
-  pub zero-lacks : Bytes b → planBound b n ≡ 0 → Lacks
-  unfolding planBound Lacks
+  pub zero-lacks : Bytes b → planBound b n ≡ 0 → Unused (planAnswer b .table) n
+  unfolding planBound
   zero-lacks u e f p q =
       let w = made-bound (planAnswer b .table) (answer-made b u) f p in
       let z : boundOf (askedFor (planAnswer b .table) (f .number)) ≡ 0 = ap (λ (k : ℕ). boundOf (askedFor (planAnswer b .table) k)) q ∙ e in

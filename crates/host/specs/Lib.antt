@@ -1,2 +1,3 @@
 -- The definitions of `host`.
 pub mod Host
+pub mod Demands

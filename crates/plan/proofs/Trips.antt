@@ -20,7 +20,7 @@ use Rattle.flows.specs.WellFormed.{Each, each-none, each-more, Typed}
 use Rattle.row.specs.Rows.{lastNumber, Rising, rising-none, rising-more}
 use Rattle.records.specs.declared.Links.{Links}
 use Rattle.records.specs.Kinds.{linksKind, linksBody, linksRecord, flowKind, flowBody, flowRecord, endKind}
-use Rattle.records.specs.Bodies.{flowRead, linksWritten, flowWritten}
+use Rattle.records.specs.Bodies.{Bytes, flowRead, linksWritten, flowWritten}
 use Rattle.reader.specs.declared.Kind.{Kind}
 use Rattle.reader.specs.declared.Kind.the-variants.{OfLinks, OfFlow, OfEnd}
 use Rattle.plan.specs.declared.Reading.{Reading}
@@ -33,7 +33,7 @@ use Rattle.flows.proofs.Passed.{delays-formed, formed}
 use Rattle.row.proofs.Valid.{row-valid}
 use Rattle.row.proofs.Arrays.{held-rowOf, length-snoc}
 use Rattle.records.proofs.Writing.{length-flow}
-use Rattle.records.proofs.RoundTrip.{Bytes, read-typed, flow-back, links-back, flow-again, links-again}
+use Rattle.records.proofs.RoundTrip.{read-typed, flow-back, links-back, flow-again, links-again}
 use Rattle.reader.proofs.Places.{kind-end, kind-links, kind-flow, at-some, Whole, found}
 use Rattle.plan.proofs.Steps.{nextAfter, flows-at-none, flows-at-links, flows-at-end, flows-at-flow, plan-at-links, plan-at-flow, plan-at-end, plan-at-none}
 

@@ -15,7 +15,7 @@ use Rattle.flows.specs.declared.Cause.{Cause}
 use Rattle.flows.specs.declared.Cause.the-variants.{Accepted}
 use Rattle.flows.specs.Refusals.{acceptedBy}
 use Rattle.flows.specs.Lists.{mostFlows, rowOf, netOf}
-use Rattle.records.proofs.RoundTrip.{Bytes}
+use Rattle.records.specs.Bodies.{Bytes}
 use Rattle.plan.specs.declared.Reading.{Reading}
 use Rattle.plan.specs.Reading.{readPlan}
 use Rattle.plan.proofs.Trips.{plan-lists, readable-valid}

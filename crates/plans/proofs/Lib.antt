@@ -1,3 +1,4 @@
 -- The laws of `plans`.
 pub mod Answers
 pub mod Trips
+pub mod Promises

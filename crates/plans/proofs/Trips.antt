@@ -15,7 +15,7 @@ use Rattle.flows.specs.declared.Cause.the-variants.{Accepted}
 use Rattle.flows.specs.Refusals.{acceptedBy}
 use Rattle.flows.specs.Lists.{held, rowOf, netOf, netFrom}
 use Rattle.row.proofs.Arrays.{held-rowOf}
-use Rattle.records.proofs.RoundTrip.{Bytes}
+use Rattle.records.specs.Bodies.{Bytes}
 use Rattle.plan.specs.declared.Reading.{Reading}
 use Rattle.plan.specs.Reading.{listed, readPlan}
 use Rattle.plan.specs.Writing.{planBytes}

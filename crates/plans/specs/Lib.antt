@@ -1,2 +1,3 @@
 -- The definitions of `plans`.
 pub mod Plans
+pub mod Demands

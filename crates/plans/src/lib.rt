@@ -10,7 +10,9 @@ ghost use lib.ListN.{length};
 ghost use Rattle.rules.specs.Valid.{Valid};
 ghost use Rattle.flows.specs.Lists.{held, netOf};
 ghost use Rattle.plan.specs.Writing.{writtenInto, bufferAfter};
+ghost use Rattle.table.specs.Made.{Made};
 ghost use Rattle.plans.specs.Plans.{refusedPlan, setAnswer, planAnswer};
+ghost use Rattle.plans.specs.Demands.{PlanRead, PlanWritten};
 
 // The empty table with both link delays 0 goes with every refusal.
 fn refuse(cause: Cause, place: usize) -> Answer
@@ -57,6 +59,7 @@ fn judge_set(lmin: u16, lmax: u16, row: Row) -> Answer
 // The table of the plan, or why not and where.
 pub fn read_plan(plan: &[u8]) -> Answer
     ensures { λ r. ⌜ r ≡ planAnswer (now (plan .entry)) ⌝ }
+    ensures { λ r. ⌜ PlanRead (now (plan .entry)) r ⌝ }
 {
     let reading = plan::read(plan);
     let cause = reading.cause;
@@ -71,6 +74,7 @@ pub fn read_plan(plan: &[u8]) -> Answer
 pub fn write_plan(buffer: &mut [u8], t: Table) -> Written
     ensures { λ r. ⌜ r ≡ writtenInto (length (now (buffer .entry))) (length (held (t .row))) ⌝ }
     ensures { λ r. ⌜ now (buffer .exit) ≡ bufferAfter (t .lmin) (t .lmax) (held (t .row)) (now (buffer .entry)) ⌝ }
+    ensures { λ r. ⌜ (Made t → PlanWritten t (now (buffer .entry)) r (now (buffer .exit))) ⌝ }
 {
     let row = t.row;
     plan::write(buffer, t.lmin, t.lmax, row)

@@ -8,11 +8,7 @@ use lib.Seq.{take-all, drop-cons}
 use Rattle.flows.specs.declared.Flow.{Flow}
 use Rattle.flows.specs.WellFormed.{Typed}
 use Rattle.records.specs.Kinds.{linksBody, flowBody, flowNodes}
-use Rattle.records.specs.Bodies.{bytesFrom, wordsFrom, linksRead, flowRead, wordsWritten, linksWritten, flowWritten}
-
--- what the type of a slice of bytes says
-abbrev pub Bytes : List ℕ → Type 0
-Bytes b = (k : ℕ) → getD b k 0 < 256
+use Rattle.records.specs.Bodies.{Bytes, bytesFrom, wordsFrom, linksRead, flowRead, wordsWritten, linksWritten, flowWritten}
 
 high-low : (x : ℕ) → x < 65536 → x / 256 % 256 * 256 + x % 256 ≡ x
 high-low x h = omega arith

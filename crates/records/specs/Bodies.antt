@@ -1,10 +1,14 @@
 -- The layout of each body: what its bytes say, and the bytes that say it. RULES, the plan.
-use Prim.Native.Nat.{ℕ, zero, suc, _+_, _*_, _/_, _%_}
+use Prim.Native.Nat.{ℕ, zero, suc, _+_, _*_, _/_, _%_, _<_}
 use mathlib.Core.List.{List, [], _∷_, _++_}
 use lib.ListN.{getD}
 use Rattle.flows.specs.declared.Flow.{Flow}
 use Rattle.records.specs.declared.Links.{Links}
 use Rattle.records.specs.Kinds.{flowNodes}
+
+-- what the type of a slice of bytes says
+abbrev pub Bytes : List ℕ → Type 0
+Bytes b = (k : ℕ) → getD b k 0 < 256
 
 -- a two-byte number has the high byte first
 abbrev pub wordAt : List ℕ → ℕ → ℕ

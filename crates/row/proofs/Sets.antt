@@ -18,7 +18,7 @@ use Rattle.flows.specs.Tests.{flowCause}
 use Rattle.flows.specs.WellFormed.{Exact, Each, each-none, each-more, Typed}
 use Rattle.row.specs.declared.Found.the-variants.{At, Nothing}
 use Rattle.row.specs.Rows.{firstOf, placeOf, foundIn, insertSorted, without, inserted, entryCause, Rising, rising-none, rising-more}
-use Rattle.flows.proofs.Causes.{accepted-only}
+use Rattle.flows.proofs.Causes.{accepted-only, not-accepted, refused-never}
 use Rattle.row.specs.Sets.{Lacks, Enters, OfEntry, by-itself, number-taken, no-room, let-in}
 use Rattle.flows.proofs.Passed.{flow-exact, formed, formed-passes}
 use Rattle.row.proofs.Arrays.{held-rowOf}
@@ -267,7 +267,7 @@ module _ (fs : List Flow) (f : Flow) where
             OfEntry fs f (entryCause fs f)
         go false q r i j k =
             subst (OfEntry fs f) (entry-itself i)
-            (by-itself (flowCause f) (λ e. false≢true (sym i ∙ ap acceptedBy e)) (flow-exact f t (flowCause f) .0 refl))
+            (by-itself (flowCause f) (refused-never (flowCause f) i) (flow-exact f t (flowCause f) .0 refl))
         go true true r i j k =
             let e = accepted-only (flowCause f) i in
             let h = ltb-true _ _ j in
@@ -286,11 +286,7 @@ module _ (fs : List Flow) (f : Flow) where
     entry-only : (c : Cause) → OfEntry fs f c → c ≡ entryCause fs f
     entry-only c (by-itself d n o) =
         let e = flow-exact f t d .1 o in
-        sym e ∙ entry-itself (ap acceptedBy e ∙ go (acceptedBy d) refl)
-      where
-        go : (b : Bool) → acceptedBy d ≡ b → acceptedBy d ≡ false
-        go true h = absurd (n (accepted-only d h))
-        go false h = h
+        sym e ∙ entry-itself (ap acceptedBy e ∙ not-accepted d n)
     entry-only c (number-taken w n) = entry-taken (formed-passes f t w) (go (ltb (placeOf (f .number) fs) (length fs)) refl)
       where
         go : (b : Bool) → ltb (placeOf (f .number) fs) (length fs) ≡ b → placeOf (f .number) fs < length fs

@@ -80,6 +80,22 @@ apart =
     ∷ on 2 (flow 1 1 20 0 60 (hop 1 1 ∷ hop 2 1 ∷ []) ∷ []) (Given (fig 4 1 1 ∷ []))
     ∷ []
 
+-- Paths that leave another path and meet it again, in each order and priority.
+pub crossed : List Row
+crossed =
+    row (flow 1 5 100 0 60 (hop 1 1 ∷ hop 2 1 ∷ hop 3 1 ∷ []) ∷ flow 2 6 100 0 60 (hop 1 1 ∷ hop 3 1 ∷ []) ∷ []) (Given (fig 6 1 2 ∷ fig 3 0 1 ∷ []))
+    ∷ row (flow 1 5 100 0 60 (hop 1 1 ∷ hop 2 1 ∷ hop 3 1 ∷ []) ∷ flow 2 5 100 0 60 (hop 1 1 ∷ hop 3 1 ∷ []) ∷ []) (Refused 7 2)
+    ∷ row (flow 1 5 100 0 60 (hop 1 1 ∷ hop 2 1 ∷ hop 3 1 ∷ []) ∷ flow 2 4 100 0 60 (hop 1 1 ∷ hop 3 1 ∷ []) ∷ []) (Refused 7 2)
+    ∷ row (flow 1 5 100 0 60 (hop 1 1 ∷ hop 3 1 ∷ []) ∷ flow 2 6 100 0 60 (hop 1 1 ∷ hop 2 1 ∷ hop 3 1 ∷ []) ∷ []) (Refused 7 1)
+    ∷ row (flow 1 5 100 0 60 (hop 1 1 ∷ hop 3 1 ∷ []) ∷ flow 2 5 100 0 60 (hop 1 1 ∷ hop 2 1 ∷ hop 3 1 ∷ []) ∷ []) (Refused 7 1)
+    ∷ row (flow 1 5 100 0 60 (hop 1 1 ∷ hop 3 1 ∷ []) ∷ flow 2 4 100 0 60 (hop 1 1 ∷ hop 2 1 ∷ hop 3 1 ∷ []) ∷ []) (Given (fig 3 0 1 ∷ fig 6 1 2 ∷ []))
+    ∷ row (flow 1 5 100 0 60 (hop 1 1 ∷ hop 2 1 ∷ hop 3 1 ∷ []) ∷ flow 2 6 100 0 60 (hop 1 1 ∷ hop 4 1 ∷ hop 3 1 ∷ []) ∷ []) (Refused 7 1)
+    ∷ row (flow 1 5 100 0 60 (hop 1 1 ∷ hop 2 1 ∷ hop 3 1 ∷ []) ∷ flow 2 5 100 0 60 (hop 1 1 ∷ hop 4 1 ∷ hop 3 1 ∷ []) ∷ []) (Refused 7 1)
+    ∷ row (flow 1 5 100 0 60 (hop 1 1 ∷ hop 2 1 ∷ hop 3 1 ∷ []) ∷ flow 2 4 100 0 60 (hop 1 1 ∷ hop 4 1 ∷ hop 3 1 ∷ []) ∷ []) (Refused 7 2)
+    ∷ row (flow 1 5 100 0 60 (hop 1 1 ∷ hop 2 1 ∷ hop 3 1 ∷ []) ∷ flow 2 5 100 0 60 (hop 1 1 ∷ hop 3 1 ∷ []) ∷ flow 3 5 100 0 60 (hop 1 1 ∷ hop 3 1 ∷ []) ∷ []) (Refused 7 2)
+    ∷ row (flow 1 5 100 0 60 (hop 1 1 ∷ hop 2 1 ∷ hop 3 1 ∷ []) ∷ flow 2 6 100 0 60 (hop 1 1 ∷ hop 3 1 ∷ []) ∷ flow 3 5 100 0 60 (hop 1 1 ∷ hop 3 1 ∷ []) ∷ []) (Refused 7 3)
+    ∷ []
+
 pub Right : List Row → Type 0
 Right [] = Unit {0}
 Right (r ∷ l) = (judged (r .net) ≡ r .expected) × Right l
@@ -91,3 +107,7 @@ worked = (refl, (refl, (refl, (refl, (refl, (refl, (refl, (refl, (refl, (refl, (
 pub told-apart : Right apart
 unfolding Right apart hop flow plain fig on row count ceil sumOf maxOf minOf anyOf keep climb settleBy bestTo startTo horizon role visits prefix before lastNode firstOn lastOn there crossings smin runsAlong along leastCost M slowest weight ownWeight earliest slowestNode plusA lessA term1 term2 packets others term3 greatestCost term4 lowerCost term5 term6 sum load jitterOf busyLength start response arrivingBy arrivalsBy replies round pastHorizon total still rounds settle figures meetsAgain returns misplaced firstOr settledJudged loadJudged judged
 told-apart = (refl, (refl, (refl, (refl, (refl, (refl, (refl, (refl, (refl, (refl, (refl, (refl, (refl, (refl, (refl, (refl, tt))))))))))))))))
+
+pub kept-apart : Right crossed
+unfolding Right crossed hop flow plain fig on row count ceil sumOf maxOf minOf anyOf keep climb settleBy bestTo startTo horizon role visits prefix before lastNode firstOn lastOn there crossings smin runsAlong along leastCost M slowest weight ownWeight earliest slowestNode plusA lessA term1 term2 packets others term3 greatestCost term4 lowerCost term5 term6 sum load jitterOf busyLength start response arrivingBy arrivalsBy replies round pastHorizon total still rounds settle figures meetsAgain returns misplaced firstOr settledJudged loadJudged judged
+kept-apart = (refl, (refl, (refl, (refl, (refl, (refl, (refl, (refl, (refl, (refl, (refl, tt)))))))))))

@@ -1,7 +1,7 @@
 -- What an accepted admission did, and what refusals give. Assumes nothing.
 use Prim.Native.Nat.{ℕ, zero, suc, _<_}
 use mathlib.Core.Path.{_≡_, refl, sym, ap, _∙_}
-use mathlib.Core.Bool.{Bool, true, false, cond, false≢true}
+use mathlib.Core.Bool.{Bool, true, false, cond}
 use mathlib.Core.List.{List, [], _∷_, List·Memᴰ, List·Memᴰ·head, List·Memᴰ·tail}
 use mathlib.Core.Logic.{_⊎_}
 use native.Mathlib.Omega.{arith}
@@ -18,7 +18,7 @@ use Rattle.flows.specs.declared.Cause.the-variants.{Accepted, Absent}
 use Rattle.flows.specs.Refusals.{acceptedBy, refusalOf}
 use Rattle.flows.specs.Lists.{noFlow, held, rowOf}
 use Rattle.flows.specs.WellFormed.{Typed}
-use Rattle.flows.proofs.Causes.{accepted-only}
+use Rattle.flows.proofs.Causes.{accepted-only, refused-never}
 use Rattle.row.specs.declared.Found.{Found}
 use Rattle.row.specs.declared.Found.the-variants.{At, Nothing}
 use Rattle.row.specs.Rows.{foundIn, insertSorted, inserted, entryCause}
@@ -49,23 +49,20 @@ pub admit-done : (t : Table) (f : Flow) → Typed f → admitted t f .cause ≡ 
 unfolding admitted unless answered decided verdictFrom given refused
 admit-done t f u a = go (acceptedBy (entryCause (held (t .row)) f)) refl
   where
-    never : (c : Cause) → acceptedBy c ≡ false → c ≡ Accepted → ⊥
-    never c e h = false≢true (sym e ∙ ap acceptedBy h)
-
     next : (n : Enters (held (t .row)) f) (v : net.Judgement) → judged (enlargedNet t f) ≡ v →
         admitted t f ≡ decided t (rowOf (insertSorted f (held (t .row)))) (verdictFrom v) → Done t f
     next n (net.Given gs) j e = record { entered = n; givens = gs; judgement = j; answer = e }
     next n (net.Refused k m) j e =
         let c : decided t (rowOf (insertSorted f (held (t .row)))) (refused (causeOf k m)) .cause ≡ causeOf k m =
         decided-cause t (rowOf (insertSorted f (held (t .row)))) (refused (causeOf k m)) in
-        absurd (never (causeOf k m) (cause-refuses k m) (sym c ∙ sym (ap (λ (r : Answer). r .cause) e) ∙ a))
+        absurd (refused-never (causeOf k m) (cause-refuses k m) (sym c ∙ sym (ap (λ (r : Answer). r .cause) e) ∙ a))
 
     go : (b : Bool) → acceptedBy (entryCause (held (t .row)) f) ≡ b → Done t f
     go true e =
         let c = accepted-only (entryCause (held (t .row)) f) e in
         let n = enters (held (t .row)) f u c in
         next n _ refl (admit-decided t f n c)
-    go false e = absurd (never (entryCause (held (t .row)) f) e (sym (rw e) ∙ a))
+    go false e = absurd (refused-never (entryCause (held (t .row)) f) e (sym (rw e) ∙ a))
 
 -- The flows present after an accepted admission: the new one and those that were
 module _ (t : Table) (f : Flow) (u : Typed f) (a : admitted t f .cause ≡ Accepted) where

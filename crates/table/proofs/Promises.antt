@@ -1,7 +1,7 @@
 -- What each call promises of a table that calls made: the demands, from the equations. Assumes nothing.
 use Prim.Native.Nat.{ℕ}
 use mathlib.Core.Path.{_≡_, refl, sym, ap, _∙_, subst}
-use mathlib.Core.Bool.{Bool, true, false, cond, false≢true}
+use mathlib.Core.Bool.{Bool, true, false, cond}
 use mathlib.Core.List.{List, [], List·Memᴰ, List·Memᴰ·not-nil}
 use mathlib.Core.Logic.{_⊎_, ⊎-elim}
 use Rattle.flows.specs.declared.Flow.{Flow}
@@ -14,7 +14,7 @@ use Rattle.flows.specs.Refusals.{acceptedBy}
 use Rattle.flows.specs.Lists.{held}
 use Rattle.flows.specs.Tests.{delayCause}
 use Rattle.flows.specs.WellFormed.{Typed}
-use Rattle.flows.proofs.Causes.{accepted-only}
+use Rattle.flows.proofs.Causes.{accepted-only, refused-never}
 use Rattle.flows.proofs.Passed.{delays-given}
 use Rattle.row.specs.declared.Found.{Found}
 use Rattle.row.specs.declared.Found.the-variants.{At, Nothing}
@@ -56,7 +56,7 @@ module _ (lmin lmax : ℕ) where
   fresh-links : (b : Bool) → acceptedBy (delayCause lmin lmax) ≡ b → freshBy b .cause ≡ Accepted → (freshBy b .table .lmin ≡ lmin) × (freshBy b .table .lmax ≡ lmax)
   unfolding answered emptyTable
   fresh-links true e h = (refl, refl)
-  fresh-links false e h = absurd (false≢true (sym e ∙ ap acceptedBy h))
+  fresh-links false e h = absurd (refused-never (delayCause lmin lmax) e h)
 
   fresh-none : (b : Bool) → (freshBy b .cause ≡ Accepted → ⊥) → (freshBy b .table .lmin ≡ 0) × (freshBy b .table .lmax ≡ 0)
   unfolding answered emptyTable

@@ -1,7 +1,7 @@
 -- Which refusal an admission gets: each from 2 to 10 exactly when the rules say so, and 8, 9 or 10 exactly if the enlarged set is unfit. Assumes nothing.
 use Prim.Native.Nat.{ℕ, _≤_}
 use mathlib.Core.Path.{_≡_, refl, sym, ap, _∙_, subst}
-use mathlib.Core.Bool.{Bool, true, false, false≢true}
+use mathlib.Core.Bool.{Bool, true, false}
 use mathlib.Core.List.{Sublistᴰ·refl}
 use native.Mathlib.Omega.{arith}
 use Rattle.rules.specs.Net as net
@@ -19,7 +19,7 @@ use Rattle.flows.specs.declared.Cause.the-variants.{Accepted}
 use Rattle.flows.specs.Refusals.{acceptedBy}
 use Rattle.flows.specs.Lists.{held, rowOf}
 use Rattle.flows.specs.WellFormed.{Exactly, Exact, Typed}
-use Rattle.flows.proofs.Causes.{accepted-only}
+use Rattle.flows.proofs.Causes.{accepted-only, not-accepted, refused-never}
 use Rattle.row.specs.Rows.{insertSorted, entryCause}
 use Rattle.row.specs.Sets.{Enters}
 use Rattle.row.proofs.Sets.{entry-exact, enters, entered}
@@ -75,11 +75,7 @@ module _ (t : Table) (made : Made t) (f : Flow) (u : Typed f) where
   -- Each refusal from 2 to 10 is given exactly when the rules say so, with the least flow at fault
   entry-cause : (entryCause (held (t .row)) f ≡ Accepted → ⊥) → admitted t f .cause ≡ entryCause (held (t .row)) f
   unfolding admitted unless answered
-  entry-cause never = go (acceptedBy (entryCause (held (t .row)) f)) refl
-    where
-      go : (b : Bool) → acceptedBy (entryCause (held (t .row)) f) ≡ b → admitted t f .cause ≡ entryCause (held (t .row)) f
-      go true e = absurd (never (accepted-only (entryCause (held (t .row)) f) e))
-      go false e = rw e
+  entry-cause never = rw (not-accepted (entryCause (held (t .row)) f) never)
 
   of-admission : OfAdmission t f (admitted t f .cause)
   of-admission = go (acceptedBy (entryCause (held (t .row)) f)) refl
@@ -89,7 +85,7 @@ module _ (t : Table) (made : Made t) (f : Flow) (u : Typed f) where
           let n = enters (held (t .row)) f u (accepted-only (entryCause (held (t .row)) f) e) in
           subst (OfAdmission t f) (sym (set-cause n)) (by-set (judged N) n (judged-is N (enlarged-valid n)))
       go false e =
-          let never : entryCause (held (t .row)) f ≡ Accepted → ⊥ = λ h. false≢true (sym e ∙ ap acceptedBy h) in
+          let never = refused-never (entryCause (held (t .row)) f) e in
           subst (OfAdmission t f) (sym (entry-cause never)) (by-entry _ never (entry-exact (held (t .row)) f u _ .0 refl))
 
   admission-only : (c : Cause) → OfAdmission t f c → c ≡ admitted t f .cause

@@ -1,8 +1,10 @@
 -- `engine::judge` meets its contract.
-use Rattle.engine.proofs.Judging.{crossing-judged, placed-judged}
+use Rattle.engine.proofs.Judging.{judge-meant, crossing-judged, placed-judged}
 use Rattle.flows.specs.declared.Cause.the-variants.{Crossing}
-use Rattle.engine.specs.Verdicts.{refused}
-use mathlib.Core.Path.{ap, _∙_}
+use Rattle.engine.specs.Verdicts.{refused, verdictOf}
+use Rattle.rules.specs.Valid.{Valid}
+use Rattle.flows.specs.Lists.{netOf}
+use mathlib.Core.Path.{_≡_, ap, _∙_}
 use borrow.Author.Needs.{needs}
 use Rattle.engine.proofs.judge.Statement.{statement}
 use Rattle.engine.proofs.judge.Tie as tie
@@ -27,13 +29,19 @@ refuse-requires : tie.Need-refuse-requires
 refuse-requires c κs = search needs
 
 returns : tie.Need-returns
-returns c = let s = c .before .before .before .before .before .args in let m = c .before .before .before .before .first-misplaced in λ v. crossing-judged (s .lmin) (s .lmax) (s .row) v (m .result) (m .ensures (s .lmin) (s .lmax)) (search needs) (c .refuse .result) (c .refuse .ensures ∙ ap (λ k. refused (Crossing k)) (c .before .number-at .ensures))
+returns c = let s = c .before .before .before .before .before .args in let m = c .before .before .before .before .first-misplaced in
+    let e : Valid (netOf (s .lmin) (s .lmax) (s .row)) → c .refuse .result ≡ verdictOf (s .lmin) (s .lmax) (s .row) =
+    λ v. crossing-judged (s .lmin) (s .lmax) (s .row) v (m .result) (m .ensures (s .lmin) (s .lmax)) (search needs) (c .refuse .result) (c .refuse .ensures ∙ ap (λ k. refused (Crossing k)) (c .before .number-at .ensures)) in
+    (e, λ v. judge-meant (s .lmin) (s .lmax) (s .row) v _ (e v))
 
 judge-load-requires : tie.Need-judge-load-requires
 judge-load-requires c κs = search needs
 
 returns-2 : tie.Need-returns-2
-returns-2 c = let s = c .before .before .before .before .args in let m = c .before .before .before .first-misplaced in λ v. placed-judged (s .lmin) (s .lmax) (s .row) v (m .result) (m .ensures (s .lmin) (s .lmax)) (search needs) (c .judge-load .result) (c .judge-load .ensures v)
+returns-2 c = let s = c .before .before .before .before .args in let m = c .before .before .before .first-misplaced in
+    let e : Valid (netOf (s .lmin) (s .lmax) (s .row)) → c .judge-load .result ≡ verdictOf (s .lmin) (s .lmax) (s .row) =
+    λ v. placed-judged (s .lmin) (s .lmax) (s .row) v (m .result) (m .ensures (s .lmin) (s .lmax)) (search needs) (c .judge-load .result) (c .judge-load .ensures v) in
+    (e, λ v. judge-meant (s .lmin) (s .lmax) (s .row) v _ (e v))
 
 pub judge-spec : {M : Type 1} → statement M
 judge-spec =

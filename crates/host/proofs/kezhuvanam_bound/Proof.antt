@@ -1,5 +1,6 @@
 -- `host::kezhuvanam_bound` meets its contract.
 use Rattle.host.proofs.Numbers.{no-bound, bounded}
+use Rattle.host.proofs.Promises.{bound-promise}
 use borrow.Author.Needs.{needs}
 use Rattle.host.proofs.kezhuvanam_bound.Statement.{statement}
 use Rattle.host.proofs.kezhuvanam_bound.Tie as tie
@@ -9,7 +10,7 @@ use Rattle.host.proofs.bound_in.Reads as bound-in-reads
 use Rattle.plans.proofs.read_plan.Reads as read-plan-reads
 
 returns : tie.Need-returns
-returns c = search (no-bound, needs)
+returns c = (search (no-bound, needs), search (bound-promise, no-bound, needs))
 
 read-plan-requires : tie.Need-read-plan-requires
 read-plan-requires c κs = search needs
@@ -21,7 +22,7 @@ bound-in-requires : tie.Need-bound-in-requires
 bound-in-requires c κs = search needs
 
 returns-2 : tie.Need-returns-2
-returns-2 c = search (bounded, needs)
+returns-2 c = (search (bounded, needs), search (bound-promise, bounded, needs))
 
 pub kezhuvanam-bound-spec : {M : Type 1} → statement M
 kezhuvanam-bound-spec =

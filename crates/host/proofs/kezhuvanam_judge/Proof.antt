@@ -1,5 +1,6 @@
 -- `host::kezhuvanam_judge` meets its contract.
 use Rattle.host.proofs.Numbers.{place-fits, coded}
+use Rattle.host.proofs.Promises.{judge-promise}
 use borrow.Author.Needs.{needs}
 use Rattle.host.proofs.kezhuvanam_judge.Statement.{statement}
 use Rattle.host.proofs.kezhuvanam_judge.Tie as tie
@@ -15,7 +16,7 @@ code-requires : tie.Need-code-requires
 code-requires c κs = search place-fits
 
 returns : tie.Need-returns
-returns c = search coded
+returns c = (search coded, search judge-promise)
 
 pub kezhuvanam-judge-spec : {M : Type 1} → statement M
 kezhuvanam-judge-spec = tie.close (tie.spec read-plan-requires code-requires returns)

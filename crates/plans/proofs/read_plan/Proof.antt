@@ -1,5 +1,6 @@
 -- `plans::read_plan` meets its contract.
 use Rattle.plans.proofs.Answers.{plan-refused, plan-judged}
+use Rattle.plans.proofs.Promises.{read-promise}
 use borrow.Author.Needs.{needs}
 use Rattle.plans.proofs.read_plan.Statement.{statement}
 use Rattle.plans.proofs.read_plan.Tie as tie
@@ -20,13 +21,13 @@ refuse-requires : tie.Need-refuse-requires
 refuse-requires c κs = search needs
 
 returns : tie.Need-returns
-returns c = search plan-refused
+returns c = (search plan-refused, search (read-promise, plan-refused, needs))
 
 judge-set-requires : tie.Need-judge-set-requires
 judge-set-requires c κs = search needs
 
 returns-2 : tie.Need-returns-2
-returns-2 c = search (plan-judged, needs)
+returns-2 c = (search (plan-judged, needs), search (read-promise, plan-judged, needs))
 
 pub read-plan-spec : {M : Type 1} → statement M
 read-plan-spec =
