@@ -322,14 +322,6 @@ module _ (b : List ℕ) where
       (λ w g. links-found (readPlan b) u w (plan-at-links b g) h)
       (λ w g. absurd (refused-no _ Malformed 0 (plan-at-flow b g) refl h))
 
-  -- What is read and then written is the bytes that were read
-  pub read-write : Bytes b → acceptedBy (readPlan b .cause) ≡ true →
-      planBytes (readPlan b .lmin) (readPlan b .lmax) (held (readPlan b .row)) ≡ b
-  read-write u h =
-      let s = plan-lists u h in
-      ap (λ (r : Reading). planBytes (r .lmin) (r .lmax) (held (r .row))) (s .read) ∙
-      ap (λ (fs : List Flow). planBytes (s .lmin) (s .lmax) fs) (held-rowOf (s .flows)) ∙ sym (s .bytes)
-
 -- ---- a set that a plan can list is a valid set of the rules, and each of its flows well formed
 pub readable-valid : (lmin lmax : ℕ) (fs : List Flow) → Readable lmin lmax fs → Valid (netOf lmin lmax (rowOf fs))
 readable-valid lmin lmax fs s = row-valid lmin lmax fs (delays-formed lmin lmax (s .delays) .0) (s .rising) (s .flows) (s .typed)

@@ -1,4 +1,4 @@
--- Rows in rising number: kept by insertion and removal, determined by their flows, and undone.
+-- Rows in rising number: kept by insertion and removal, and determined by their flows; which of refusals 2 to 6 is given.
 use Prim.Native.Nat.{ℕ, suc, _≤_, _<_}
 use mathlib.Core.Path.{_≡_, refl, sym, ap, _∙_, subst}
 use mathlib.Core.Bool.{Bool, true, false, cond, false≢true}
@@ -87,10 +87,6 @@ same-flows (f ∷ fs) (g ∷ gs) r s a b =
     rest : {n : ℕ} {x : Flow} {xs : List Flow} → Rising n (x ∷ xs) → Rising (x .number) xs
     rest (rising-more h r) = r
 
--- The row is determined by its set of flows
-pub same-row : {m n : ℕ} (fs gs : List Flow) → Rising m fs → Rising n gs → Within fs gs → Within gs fs → rowOf fs ≡ rowOf gs
-same-row fs gs r s a b = ap rowOf (same-flows fs gs r s a b)
-
 -- ---- the flows present afterwards
 pub insert-has : (f : Flow) (fs : List Flow) → List·Memᴰ f (insertSorted f fs)
 unfolding insertSorted
@@ -156,28 +152,6 @@ without-only number x (f ∷ fs) (rising-more h r) m = go (eqb (f .number) numbe
         (λ (q : x ≡ f). (λ (z : x .number ≡ number). eqb-false (f .number) number e (sym (ap (λ (y : Flow). y .number) q) ∙ z), List·Memᴰ·head q))
         (λ (i : List·Memᴰ x (without number fs)). (ih i .0, List·Memᴰ·tail (ih i .1)))
         (List·Memᴰ·cases-cons p)
-
--- ---- an insertion undone, and a removal of what is not there
-pub without-lacking : (number : ℕ) (fs : List Flow) → Lacks number fs → without number fs ≡ fs
-unfolding without
-without-lacking number [] a = refl
-without-lacking number (f ∷ fs) (each-more d a) = rw (ne-eqb (f .number) number d, without-lacking number fs a)
-
-pub without-insert : (f : Flow) (fs : List Flow) → Lacks (f .number) fs → without (f .number) (insertSorted f fs) ≡ fs
-unfolding without insertSorted
-without-insert f [] a = rw (eq-eqb (f .number) (f .number) refl)
-without-insert f (g ∷ gs) (each-more d a) = go (ltb (f .number) (g .number)) (without-insert f gs a)
-  where
-    go : (b : Bool) → without (f .number) (insertSorted f gs) ≡ gs → without (f .number) (cond b (f ∷ g ∷ gs) (g ∷ insertSorted f gs)) ≡ g ∷ gs
-    go true ih = rw (eq-eqb (f .number) (f .number) refl)
-    go false ih = rw (ne-eqb (g .number) (f .number) d, ih)
-
--- Removal after insertion gives the old row
-pub remove-insert : (f : Flow) (fs : List Flow) → length fs < mostFlows → Lacks (f .number) fs →
-    rowOf (without (f .number) (held (inserted (rowOf fs) f))) ≡ rowOf fs
-unfolding inserted
-remove-insert f fs h a =
-    ap rowOf (rw (held-rowOf fs, lt-leb mostFlows (length fs) h, held-rowOf (insertSorted f fs)) (without-insert f fs a))
 
 -- ---- what holds of each flow still does
 module _ (P : Flow → Type 0) where

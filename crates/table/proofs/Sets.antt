@@ -175,7 +175,3 @@ made-in (suc n) t r e = go (held (t .row)) refl (λ s q l. made-in n s q l)
 -- A set that every refusal lets pass, with its figures, is a table that calls make
 pub right-made : (t : Table) → Right t → Made t
 right-made t r = made-in (length (held (t .row))) t r refl
-
-pub accepted-made : (lmin lmax : ℕ) (fs : List Flow) (gs : List net.Figures) → Readable lmin lmax fs → judged (netFrom lmin lmax fs) ≡ net.Given gs →
-    Made (record { lmin = lmin; lmax = lmax; row = rowOf fs; figures = given gs .figures })
-accepted-made lmin lmax fs gs k j = right-made _ (right-of (record { lmin = lmin; lmax = lmax; row = rowOf fs; figures = given gs .figures }) fs gs refl k j refl)
