@@ -21,7 +21,7 @@ use Rattle.sheets.specs.Setup.{Setup}
 use Rattle.sheets.proofs.Places.{flow-here}
 use Rattle.settle.specs.Good.{arrivalsIn, held, due, Rests}
 use Rattle.settle.specs.Turns.{SettleIs}
-use Rattle.settle.specs.declared.Settled.{Settled}
+use Rattle.settle.specs.declared.Settlement.{Settlement}
 
 module _ (N : Net) (ready : (i : Flow) → Here N i → Ready N i) where
   due-le : (replies replies′ : List ℕ) → Rests N replies → Rests N replies′ → (b k : ℕ) → b < length (N .flows) → k < length (flowAt N b .path) →
@@ -63,7 +63,7 @@ module _ (N : Net) (ready : (i : Flow) → Here N i → Ready N i) where
         absurd (s′ .outcome N valid ready setup (arrivalsIn N replies) (s .outcome N valid ready setup .least .settled))
     past-one false false replies replies′ s s′ = refl
 
-    pub settle-one : (a b : Settled) → SettleIs nums from also lengths busies reads n (a .past) (a .replies) →
+    pub settle-one : (a b : Settlement) → SettleIs nums from also lengths busies reads n (a .past) (a .replies) →
         SettleIs nums from also lengths busies reads n (b .past) (b .replies) → a ≡ b
     settle-one a b s s′ =
         let q : a .past ≡ b .past = past-one (a .past) (b .past) (a .replies) (b .replies) s s′ in

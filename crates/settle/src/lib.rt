@@ -178,7 +178,7 @@ fn turn<'a>(
 }
 
 // The response bounds of each flow at the nodes of its path, and zeros in all other places; past the horizon, zeros alone.
-pub struct Settled {
+pub struct Settlement {
     pub replies: [u64; PLACES],
     pub past: bool,
 }
@@ -193,7 +193,7 @@ pub fn settle<'a>(
     priorities: &'a [u64; FLOWS],
     reads: &'a [u64; PLACES],
     n: usize,
-) -> Settled
+) -> Settlement
     requires { ⌜ (n ≤ mostFlows) × HalfSmall (now nums) × Short (now lengths) × LowTo n (now busies) ⌝ }
     ensures { λ r. ⌜ SettleIs (now (nums .entry)) (now (from .entry)) (now (also .entry)) (now (lengths .entry)) (now (busies .entry)) (now (reads .entry)) n (r .past) (r .replies) ⌝ }
 {
@@ -208,7 +208,7 @@ pub fn settle<'a>(
         state = turn(nums, from, also, lengths, busies, reads, n, state, a);
         if state.past {
             let replies = [0u64; PLACES];
-            return Settled {
+            return Settlement {
                 replies,
                 past: true,
             };
@@ -217,7 +217,7 @@ pub fn settle<'a>(
         a = choose(&marks, priorities, a, n);
     }
     let replies = state.replies;
-    Settled {
+    Settlement {
         replies,
         past: false,
     }
