@@ -139,13 +139,13 @@ module _ (lmin lmax : ℕ) (row : Row) (val : Valid (netOf lmin lmax row)) where
       pub unsettled-judged : (replies : List ℕ) (past : Bool) → SettleIs nums from also lengths busies reads n past replies → past ≡ true → refused Unsettled ≡ verdictFrom (loadJudged N)
       unfolding verdictFrom causeOf
       unsettled-judged replies past s e =
-          let none = subst (λ b. Outcome N b replies) e (s N val ready setup) in
+          let none = subst (λ b. Outcome N b replies) e (s .outcome N val ready setup) in
           ap verdictFrom (settles-unique N val (Refused 9 0) (settledJudged N) (unsettled none) (settles-is N val ready) ∙ sym (found .1 (omega (arith, setup .count))))
 
       module _ (replies : List ℕ) (past : Bool) (s : SettleIs nums from also lengths busies reads n past replies) (clear : past ≡ false)
           (table : List Figures) (tally : FiguresUpTo row lmin replies busies (length (held row)) table) (few : n ≤ mostFlows) where
         rests : Rests N replies
-        rests = subst (λ b. Outcome N b replies) clear (s N val ready setup)
+        rests = subst (λ b. Outcome N b replies) clear (s .outcome N val ready setup)
 
         abbrev S : Arrivals
         S = arrivalsIn N replies

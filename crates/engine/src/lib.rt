@@ -185,7 +185,7 @@ fn judge_load(row: Row, lmin: u16, lmax: u16) -> Verdict
     if overload < n {
         return refuse(Cause::NoBusyLength(number_at(row, overload)));
     }
-    let state = settle::settle(
+    let settled = settle::settle(
         &draft.nums,
         &draft.from,
         &draft.also,
@@ -195,10 +195,10 @@ fn judge_load(row: Row, lmin: u16, lmax: u16) -> Verdict
         &draft.reads,
         n,
     );
-    if state.past {
+    if settled.past {
         return refuse(Cause::Unsettled);
     }
-    let replies = state.replies;
+    let replies = settled.replies;
     judge_figures(row, figures_of(row, lmin, replies, busies))
 }
 

@@ -89,14 +89,12 @@ module _ (marks reads : List ℕ) (a : ℕ) where
 -- raising
 pub record Raising (replies best : List ℕ) (a m : ℕ) (to : List ℕ) (rose k : ℕ) : Type 0 where
   pub few : k ≤ m
-  pub long : length to ≡ 256
   pub done : RaisedIs replies best a k to rose
 
 module _ (replies best : List ℕ) (a m : ℕ) (first : a < mostFlows) (most : m ≤ mostNodes) where
   pub raising-start : length replies ≡ 256 → Low replies → Raising replies best a m replies 0 0
-  raising-start long low = record {
+  raising-start wide low = record {
     few = omega arith;
-    long = long;
     done = record {
       inside = λ k h. absurd (omega arith);
       outside = λ x h. refl;
@@ -104,6 +102,7 @@ module _ (replies best : List ℕ) (a m : ℕ) (first : a < mostFlows) (most : m
       grows = le-refl _;
       risen = λ z. absurd (z refl);
       low = low;
+      wide = wide;
     };
   }
 
@@ -119,14 +118,14 @@ module _ (replies best : List ℕ) (a m : ℕ) (first : a < mostFlows) (most : m
 
     stored : values (set to at v) at ≡ v
     unfolding at
-    stored = getD-set-same to at v 0 (omega (arith, i .long))
+    stored = getD-set-same to at v 0 (omega (arith, i .done .wide))
 
     unstored : (x : ℕ) → (x ≡ at → ⊥) → values (set to at v) x ≡ values to x
     unstored x ne = getD-set-other to at x v 0 ne
 
     each : (x : ℕ) → values to x ≤ values (set to at v) x
     unfolding at
-    each = set-cases (λ x w. values to x ≤ w) to at v (omega (arith, i .long)) (omega arith) (λ j q. le-refl _)
+    each = set-cases (λ x w. values to x ≤ w) to at v (omega (arith, i .done .wide)) (omega arith) (λ j q. le-refl _)
 
     more : total to ≤ total (set to at v)
     more = sum-to-le 128 (values to) (values (set to at v)) (λ x q. each x)
@@ -139,7 +138,6 @@ module _ (replies best : List ℕ) (a m : ℕ) (first : a < mostFlows) (most : m
     unfolding at
     raising-more = record {
       few = omega arith;
-      long = simp length-set (i .long);
       done = record {
         inside = below-more (λ j. values (set to at v) (a * mostNodes + j) ≡ max (values replies (a * mostNodes + j)) (values best j)) k
             (λ j h. unstored (a * mostNodes + j) (λ e. omega arith) ∙ i .done .inside j h)
@@ -150,7 +148,8 @@ module _ (replies best : List ℕ) (a m : ℕ) (first : a < mostFlows) (most : m
             (low-stored z (le-or-lt (values best k) (values to at)));
         grows = omega (arith, more, i .done .grows);
         risen = λ z. rises z (eqb rose 0) refl (le-or-lt (values best k) (values to at));
-        low = set-cases (λ x w. w ≤ mostTime) to at v (omega (arith, i .long)) (omega (arith, i .done .low at, low-best k)) (λ j q. i .done .low j);
+        low = set-cases (λ x w. w ≤ mostTime) to at v (omega (arith, i .done .wide)) (omega (arith, i .done .low at, low-best k)) (λ j q. i .done .low j);
+        wide = simp length-set (i .done .wide);
       };
     }
       where

@@ -5,17 +5,17 @@ use mathlib.Core.Logic.{_⊎_}
 use mathlib.Core.List.{List}
 use Prim.Native.Nat.{ℕ, _+_, _-_, _*_, _≤_, _<_, max}
 use lib.ListN.{length}
+use Rattle.least.specs.Count.{pick}
 use Rattle.least.specs.Fold.{sumTo}
 use Rattle.starts.specs.Sheet.{mostFlows, mostNodes, values}
 use Rattle.starts.specs.Runs.{Low}
-use Rattle.sheets.specs.Fields.{noPlace}
 use Rattle.sheets.specs.Setup.{Setup}
 use Rattle.rules.specs.Net.{Flow, Net}
 use Rattle.rules.specs.Formula.{Arrivals}
 use Rattle.rules.specs.Meaning.{Here, Settled}
 use Rattle.rules.specs.Valid.{Valid}
 use Rattle.rules.proofs.Busy.{Ready}
-use Rattle.settle.specs.Good.{Good, Outcome}
+use Rattle.settle.specs.Good.{held, Good, Outcome}
 
 -- all response bounds together
 abbrev pub total : List ℕ → ℕ
@@ -29,6 +29,7 @@ pub record RaisedIs (replies best : List ℕ) (a m : ℕ) (replies′ : List ℕ
   pub grows : total replies ≤ total replies′
   pub risen : (rose ≡ 0 → ⊥) → total replies < total replies′
   pub low : Low replies′
+  pub wide : length replies′ ≡ 256
 
 -- marks are 0 or 1
 abbrev pub Flags : List ℕ → Type 0
@@ -52,10 +53,15 @@ pub record ChosenIs (marks : List ℕ) (n m r : ℕ) : Type 0 where
 abbrev pub Short : List ℕ → Type 0
 Short lengths = (a : ℕ) → values lengths a ≤ mostNodes
 
--- what holds of any state: response bounds within the horizon, none at the place that holds 0, marks 0 or 1
-pub record Fair (replies marks : List ℕ) : Type 0 where
+-- zeros in the places that none of n flows has: behind the end of its path, and of flows from n on
+abbrev pub Bare : List ℕ → ℕ → List ℕ → Type 0
+Bare lengths n replies = (b k : ℕ) → k < mostNodes → (n ≤ b) ⊎ (values lengths b ≤ k) → held replies b k ≡ 0
+
+-- what holds of any state: response bounds within the horizon, none where no flow has one, marks 0 or 1
+pub record Fair (lengths : List ℕ) (n : ℕ) (replies marks : List ℕ) : Type 0 where
+  pub wide : length replies ≡ 256
   pub low : Low replies
-  pub none : values replies noPlace ≡ 0
+  pub bare : Bare lengths n replies
   pub flags : Flags marks
   pub long : length marks ≡ mostFlows
 
@@ -73,7 +79,9 @@ pub record TurnIs (nums from also lengths busies reads : List ℕ) (n : ℕ) (re
   pub keeps : (N : Net) → Valid N → ((i : Flow) → Here N i → Ready N i) → Setup N nums from also lengths busies reads n → Good N replies marks →
       Keeps N past replies′ marks′
 
--- of a net for which everything is set up: the outcome
-abbrev pub SettleIs : List ℕ → List ℕ → List ℕ → List ℕ → List ℕ → List ℕ → ℕ → Bool → List ℕ → Type 0
-SettleIs nums from also lengths busies reads n past replies =
-    (N : Net) → Valid N → ((i : Flow) → Here N i → Ready N i) → Setup N nums from also lengths busies reads n → Outcome N past replies
+-- of a net for which everything is set up: the outcome; of any, zeros in the places that no flow has, and past the horizon zeros alone
+pub record SettleIs (nums from also lengths busies reads : List ℕ) (n : ℕ) (past : Bool) (replies : List ℕ) : Type 0 where
+  pub outcome : (N : Net) → Valid N → ((i : Flow) → Here N i → Ready N i) → Setup N nums from also lengths busies reads n → Outcome N past replies
+  pub wide : length replies ≡ 256
+  pub low : Low replies
+  pub bare : Bare lengths (pick past 0 n) replies

@@ -10,12 +10,12 @@ ghost use Rattle.starts.specs.Runs.{Low, LowTo};
 ghost use Rattle.sheets.specs.Fields.{HalfSmall};
 ghost use Rattle.settle.specs.Turns.{RaisedIs, Flags, MarkedIs, ChosenIs, Short, Fair, TurnIs, SettleIs};
 
-pub const FLOWS: usize = 16;
+const FLOWS: usize = 16;
 
 // Response bounds after a flow's were raised, and whether one rose: 0 or 1.
-pub struct Raised {
-    pub replies: [u64; PLACES],
-    pub rose: u64,
+struct Raised {
+    replies: [u64; PLACES],
+    rose: u64,
 }
 
 fn above(a: u64, b: u64) -> u64
@@ -124,10 +124,10 @@ fn choose<'a>(marks: &'a [u64; FLOWS], priorities: &'a [u64; FLOWS], last: usize
 }
 
 // Response bounds so far, the flows that are not up to date, and whether one passed the horizon.
-pub struct State {
-    pub replies: [u64; PLACES],
-    pub marks: [u64; FLOWS],
-    pub past: bool,
+struct State {
+    replies: [u64; PLACES],
+    marks: [u64; FLOWS],
+    past: bool,
 }
 
 // The response bounds of flow a worked out again, with those so far.
@@ -142,24 +142,24 @@ fn turn<'a>(
     state: State,
     a: usize,
 ) -> State
-    requires { ⌜ (a < n) × (n ≤ mostFlows) × HalfSmall (now nums) × Short (now lengths) × LowTo n (now busies) × Fair (state .replies) (state .marks) ⌝ }
+    requires { ⌜ (a < n) × (n ≤ mostFlows) × HalfSmall (now nums) × Short (now lengths) × LowTo n (now busies) × Fair (now lengths) n (state .replies) (state .marks) ⌝ }
     ensures { λ r. ⌜ TurnIs (now (nums .entry)) (now (from .entry)) (now (also .entry)) (now (lengths .entry)) (now (busies .entry)) (now (reads .entry)) n (state .replies) (state .marks) a (r .past) (r .replies) (r .marks) ⌝ }
-    ensures { λ r. ⌜ Fair (r .replies) (r .marks) ⌝ }
+    ensures { λ r. ⌜ Fair (now (lengths .entry)) n (r .replies) (r .marks) ⌝ }
 {
     let mut marks = state.marks;
     marks[a] = 0;
     let replies = state.replies;
     let m = lengths[a] as usize;
     let sheet = sheets::fill(nums, from, also, &replies, a, m * BLOCK);
-    let run = starts::responses(&sheet, n, m, busies[a]);
-    if run.past {
+    let bounds = starts::responses(&sheet, n, m, busies[a]);
+    if bounds.past {
         return State {
             replies,
             marks,
             past: true,
         };
     }
-    let best = run.best;
+    let best = bounds.best;
     let raised = raise(replies, best, a, m);
     if raised.rose == 0 {
         return State {
@@ -177,6 +177,12 @@ fn turn<'a>(
     }
 }
 
+// The response bounds of each flow at the nodes of its path, and zeros in all other places; past the horizon, zeros alone.
+pub struct Settlement {
+    pub replies: [u64; PLACES],
+    pub past: bool,
+}
+
 // The response bounds with the least settled arrival bounds; past, where there are none.
 pub fn settle<'a>(
     nums: &'a [u64; DRAFT],
@@ -187,10 +193,9 @@ pub fn settle<'a>(
     priorities: &'a [u64; FLOWS],
     reads: &'a [u64; PLACES],
     n: usize,
-) -> State
+) -> Settlement
     requires { ⌜ (n ≤ mostFlows) × HalfSmall (now nums) × Short (now lengths) × LowTo n (now busies) ⌝ }
     ensures { λ r. ⌜ SettleIs (now (nums .entry)) (now (from .entry)) (now (also .entry)) (now (lengths .entry)) (now (busies .entry)) (now (reads .entry)) n (r .past) (r .replies) ⌝ }
-    ensures { λ r. ⌜ Low (r .replies) ⌝ }
 {
     let mut state = State {
         replies: [0u64; PLACES],
@@ -202,10 +207,18 @@ pub fn settle<'a>(
     while a < n {
         state = turn(nums, from, also, lengths, busies, reads, n, state, a);
         if state.past {
-            return state;
+            let replies = [0u64; PLACES];
+            return Settlement {
+                replies,
+                past: true,
+            };
         }
         let marks = state.marks;
         a = choose(&marks, priorities, a, n);
     }
-    state
+    let replies = state.replies;
+    Settlement {
+        replies,
+        past: false,
+    }
 }

@@ -123,7 +123,7 @@ module _ (N : Net) (val : Valid N) (r : ℕ → ℕ) (none : r noPlace ≡ 0) (a
 
     module _ (small : Small e) (past : Bool) (best : List ℕ) (run : ResponsesAre e n m (busyLength N i) past best) where
       found : Maxima e m (λ u p. start N i S u (nodeAt i p)) (busyLength N i) past best
-      found = run (λ u p. start N i S u (nodeAt i p)) (fits small) starts
+      found = run .maxima (λ u p. start N i S u (nodeAt i p)) (fits small) starts
 
       added-is : (p : ℕ) → p < m → added e p ≡ costAt (i .path) (nodeAt i p) + i .jitter
       unfolding addedOf

@@ -12,7 +12,7 @@ use borrow.Author.Tests.{eqb-true, eqb-false}
 use Rattle.least.specs.Fixed.{Least, Under}
 use Rattle.starts.specs.Sheet.{mostNodes, mostTime, instantSlot, values, added, sums, Small, Fit, StartsOf, prior}
 use Rattle.starts.specs.Begins.{BeginIs, BeginFits}
-use Rattle.starts.specs.Runs.{Low, AtNode, PastAt}
+use Rattle.starts.specs.Runs.{Within, AtNode, PastAt}
 use Rattle.starts.specs.declared.Begin.{Begin}
 use Rattle.starts.specs.declared.Begin.the-variants.{At, Past}
 use Rattle.starts.proofs.Sums.{sums-same, start-found, from-under}
@@ -38,22 +38,20 @@ pub record Passed (e : List ℕ) (W : ℕ → ℕ → ℕ) (m u : ℕ) (best₀ 
 pub record Going (e : List ℕ) (n m u : ℕ) (slots₀ best₀ slots best : List ℕ) (p : ℕ) : Type 0 where
   pub few : p ≤ m
   pub long : length slots ≡ 16
-  pub wide : length best ≡ 8
   pub time : values slots instantSlot ≡ u
   pub small : Small slots
-  pub low : Low best
+  pub within : Within m best
   pub passed : (W : ℕ → ℕ → ℕ) → Fit e n m → StartsOf e n m W → ((k : ℕ) → k < m → values slots₀ k ≡ prior W u k) → Passed e W m u best₀ slots best p
 
 module _ (e : List ℕ) (n m u : ℕ) (most : m ≤ mostNodes) where
-  pub going-start : (slots best : List ℕ) → length slots ≡ 16 → length best ≡ 8 → u ≤ mostTime → Small slots → Low best →
+  pub going-start : (slots best : List ℕ) → length slots ≡ 16 → u ≤ mostTime → Small slots → Within m best →
       Going e n m u (set slots instantSlot u) best (set slots instantSlot u) best 0
-  going-start slots best long wide small₀ small low = record {
+  going-start slots best long short small within = record {
     few = omega arith;
     long = simp length-set long;
-    wide = wide;
     time = getD-set-same slots instantSlot u 0 (omega arith);
     small = set-cases (λ j v. v < 16777216) slots instantSlot u (omega arith) (omega arith) (λ j h. small j);
-    low = low;
+    within = within;
     passed = λ W fit starts first. record {
       found = λ k h. absurd (omega arith);
       left = λ k h q. first k q;
@@ -117,7 +115,7 @@ module _ (e : List ℕ) (n m u : ℕ) (most : m ≤ mostNodes) where
           start = getD-set-same slots p w 0 (omega (arith, going .long)) ∙ start;
           greatest = omega (
             arith,
-            getD-set-same best p b 0 (omega (arith, going .wide)),
+            getD-set-same best p b 0 (omega (arith, going .within .long)),
             old .kept p (omega arith),
             start,
           );
@@ -142,10 +140,13 @@ module _ (e : List ℕ) (n m u : ℕ) (most : m ≤ mostNodes) where
       going-more = record {
         few = omega arith;
         long = simp length-set (going .long);
-        wide = simp length-set (going .wide);
         time = getD-set-other slots p instantSlot w 0 (λ z. omega arith) ∙ going .time;
         small = set-cases (λ j v. v < 16777216) slots p w (omega (arith, going .long)) (omega (arith, within)) (λ j h. going .small j);
-        low = set-cases (λ j v. v ≤ mostTime) best p b (omega (arith, going .wide)) (omega (arith, within, going .low p)) (λ j h. going .low j);
+        within = record {
+          long = simp length-set (going .within .long);
+          low = set-cases (λ j v. v ≤ mostTime) best p b (omega (arith, going .within .long)) (omega (arith, within, going .within .low p)) (λ j h. going .within .low j);
+          rest = λ k h. getD-set-other best p k b 0 (λ z. omega arith) ∙ going .within .rest k h;
+        };
         passed = passed;
       }
 

@@ -5,7 +5,7 @@ ghost use Rattle.least.specs.Count.{count};
 ghost use Rattle.least.specs.Fixed.{Under};
 ghost use Rattle.starts.specs.Sheet.{mostFlows, mostNodes, mostTime, entrySize, sheetSize, instantSlot, values, termOf, sheetSum, sums, Small, Read, Fit};
 ghost use Rattle.starts.specs.Begins.{BeginIs, BeginFits};
-ghost use Rattle.starts.specs.Runs.{Low, InstantIs, ResponsesAre};
+ghost use Rattle.starts.specs.Runs.{Within, InstantIs, ResponsesAre};
 
 // An entry of the sheet: where the count looks, what is added, what is taken off, period, weight.
 pub const ENTRY: usize = 5;
@@ -18,7 +18,7 @@ pub const SHEET: usize = 656;
 pub const NODES: usize = 8;
 
 // Where a count may look: the starting times at the nodes of the path, the one sought, the instant.
-pub const SLOTS: usize = 16;
+const SLOTS: usize = 16;
 
 pub const HERE: usize = 8;
 
@@ -75,7 +75,7 @@ fn sum_at(e: &[u64; SHEET], v: &[u64; SLOTS], p: usize, n: usize) -> u64
 }
 
 // A starting time, or that its response bound passes the horizon.
-pub enum Begin {
+enum Begin {
     At(u64),
     Past,
 }
@@ -102,17 +102,17 @@ fn start_at(e: &[u64; SHEET], v: [u64; SLOTS], p: usize, n: usize, from: u64) ->
 }
 
 // The starting times at an instant, and the greatest response bounds so far; past, where one passes the horizon.
-pub struct Run {
-    pub slots: [u64; SLOTS],
-    pub best: [u64; NODES],
-    pub past: bool,
+struct Run {
+    slots: [u64; SLOTS],
+    best: [u64; NODES],
+    past: bool,
 }
 
 // The instant u at the first m nodes, from the run up to the instant before.
 fn instant(e: &[u64; SHEET], run: Run, n: usize, m: usize, u: u64) -> Run
-    requires { ⌜ (m ≤ mostNodes) × (n ≤ mostFlows) × (u ≤ mostTime) × Read (now e) (run .slots) × Low (run .best) ⌝ }
+    requires { ⌜ (m ≤ mostNodes) × (n ≤ mostFlows) × (u ≤ mostTime) × Read (now e) (run .slots) × Within m (run .best) ⌝ }
     ensures { λ r. ⌜ InstantIs (now (e .entry)) n m u (run .slots) (run .best) (r .past) (r .slots) (r .best) ⌝ }
-    ensures { λ r. ⌜ Small (r .slots) × Low (r .best) ⌝ }
+    ensures { λ r. ⌜ Small (r .slots) × Within m (r .best) ⌝ }
 {
     let mut slots = run.slots;
     let mut best = run.best;
@@ -141,11 +141,16 @@ fn instant(e: &[u64; SHEET], run: Run, n: usize, m: usize, u: u64) -> Run
     }
 }
 
+// The response bounds at the nodes of a path, and zeros behind; past the horizon, zeros alone.
+pub struct Bounds {
+    pub best: [u64; NODES],
+    pub past: bool,
+}
+
 // The response bounds at the first m nodes, over every instant below the busy length.
-pub fn responses(e: &[u64; SHEET], n: usize, m: usize, busy: u64) -> Run
+pub fn responses(e: &[u64; SHEET], n: usize, m: usize, busy: u64) -> Bounds
     requires { ⌜ (m ≤ mostNodes) × (n ≤ mostFlows) × (busy ≤ mostTime) × Small (now e) ⌝ }
     ensures { λ r. ⌜ ResponsesAre (now (e .entry)) n m busy (r .past) (r .best) ⌝ }
-    ensures { λ r. ⌜ Low (r .best) ⌝ }
 {
     let mut run = Run {
         slots: [0u64; SLOTS],
@@ -156,9 +161,11 @@ pub fn responses(e: &[u64; SHEET], n: usize, m: usize, busy: u64) -> Run
     while u < busy {
         run = instant(e, run, n, m, u);
         if run.past {
-            return run;
+            let best = [0u64; NODES];
+            return Bounds { best, past: true };
         }
         u += 1;
     }
-    run
+    let best = run.best;
+    Bounds { best, past: false }
 }

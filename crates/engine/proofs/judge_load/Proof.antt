@@ -40,16 +40,16 @@ refuse-requires-2 : tie.Need-refuse-requires-2
 refuse-requires-2 c κs = search needs
 
 returns-2 : tie.Need-returns-2
-returns-2 c = let s = c .before .before .before .before .before .before .before .before .before .before .before .before .before .before .before .before .args in let d = c .before .before .before .before .before .before .before .before .before .before .before .before .before .before .before .prepare in let o = c .before .before .before .before .before .before .before .before .before .before .before .before .first-overload in let h = c .before .before .before .before .before .before .before .before .before .before .before .if1 .left in let t = c .before .before .settle in λ v. c .refuse2 .ensures ∙ unsettled-judged (s .lmin) (s .lmax) (s .row) v (d .result .nums) (d .result .from) (d .result .also) (d .result .lengths) (d .result .busies) (d .result .reads) (d .result .n) (d .ensures .1 .0 v) (o .result) (o .ensures) h (t .result .replies) (t .result .past) (t .ensures .0) (search needs)
+returns-2 c = let s = c .before .before .before .before .before .before .before .before .before .before .before .before .before .before .before .before .args in let d = c .before .before .before .before .before .before .before .before .before .before .before .before .before .before .before .prepare in let o = c .before .before .before .before .before .before .before .before .before .before .before .before .first-overload in let h = c .before .before .before .before .before .before .before .before .before .before .before .if1 .left in let t = c .before .before .settle in λ v. c .refuse2 .ensures ∙ unsettled-judged (s .lmin) (s .lmax) (s .row) v (d .result .nums) (d .result .from) (d .result .also) (d .result .lengths) (d .result .busies) (d .result .reads) (d .result .n) (d .ensures .1 .0 v) (o .result) (o .ensures) h (t .result .replies) (t .result .past) (t .ensures) (search needs)
 
 figures-of-requires : tie.Need-figures-of-requires
-figures-of-requires c κs = let s = c .before .before .before .before .before .before .before .before .before .before .before .before .before .before .before .before .args in let d = c .before .before .before .before .before .before .before .before .before .before .before .before .before .before .before .prepare in let o = c .before .before .before .before .before .before .before .before .before .before .before .before .first-overload in let h = c .before .before .before .before .before .before .before .before .before .before .before .if1 .left in let t = c .before .before .settle in (t .ensures .1, λ a q. none-overloaded (d .result .busies) (d .result .n) (o .result) (o .ensures) h a (omega (arith, d .ensures .1 .1 .0 .0)))
+figures-of-requires c κs = let s = c .before .before .before .before .before .before .before .before .before .before .before .before .before .before .before .before .args in let d = c .before .before .before .before .before .before .before .before .before .before .before .before .before .before .before .prepare in let o = c .before .before .before .before .before .before .before .before .before .before .before .before .first-overload in let h = c .before .before .before .before .before .before .before .before .before .before .before .if1 .left in let t = c .before .before .settle in (t .ensures .low, λ a q. none-overloaded (d .result .busies) (d .result .n) (o .result) (o .ensures) h a (omega (arith, d .ensures .1 .1 .0 .0)))
 
 judge-figures-requires : tie.Need-judge-figures-requires
 judge-figures-requires c κs = search needs
 
 returns-3 : tie.Need-returns-3
-returns-3 c = let s = c .before .before .before .before .before .before .before .before .before .before .before .before .before .before .before .before .before .before .args in let d = c .before .before .before .before .before .before .before .before .before .before .before .before .before .before .before .before .before .prepare in let o = c .before .before .before .before .before .before .before .before .before .before .before .before .before .before .first-overload in let h = c .before .before .before .before .before .before .before .before .before .before .before .before .before .if1 .left in let t = c .before .before .before .before .settle in λ v. figures-judged (s .lmin) (s .lmax) (s .row) v (d .result .nums) (d .result .from) (d .result .also) (d .result .lengths) (d .result .busies) (d .result .reads) (d .result .n) (d .ensures .1 .0 v) (o .result) (o .ensures) h (t .result .replies) (t .result .past) (t .ensures .0) (c .before .before .before .if2 .left) (c .before .figures-of .result) (c .before .figures-of .ensures) (d .ensures .1 .1 .0 .1) (c .judge-figures .result) (c .judge-figures .ensures)
+returns-3 c = let s = c .before .before .before .before .before .before .before .before .before .before .before .before .before .before .before .before .before .before .args in let d = c .before .before .before .before .before .before .before .before .before .before .before .before .before .before .before .before .before .prepare in let o = c .before .before .before .before .before .before .before .before .before .before .before .before .before .before .first-overload in let h = c .before .before .before .before .before .before .before .before .before .before .before .before .before .if1 .left in let t = c .before .before .before .before .settle in λ v. figures-judged (s .lmin) (s .lmax) (s .row) v (d .result .nums) (d .result .from) (d .result .also) (d .result .lengths) (d .result .busies) (d .result .reads) (d .result .n) (d .ensures .1 .0 v) (o .result) (o .ensures) h (t .result .replies) (t .result .past) (t .ensures) (c .before .before .before .if2 .left) (c .before .figures-of .result) (c .before .figures-of .ensures) (d .ensures .1 .1 .0 .1) (c .judge-figures .result) (c .judge-figures .ensures)
 
 pub judge-load-spec : {M : Type 1} → statement M
 judge-load-spec =

@@ -25,7 +25,7 @@ turn-requires : tie.Need-turn-requires Inv-loop μ-loop
 turn-requires c κs = let p = c .before .before .before .before .before .pre in (search needs, p .0, p .1, p .2, p .3, c .before .loop .inv .fair)
 
 returns : tie.Need-returns Inv-loop μ-loop
-returns c = (search settling-past, c .before .turn .ensures .1 .low)
+returns c = search settling-past
 
 choose-requires-2 : tie.Need-choose-requires-2 Inv-loop μ-loop
 choose-requires-2 c κs = search needs
@@ -37,7 +37,7 @@ loop-again : tie.Need-loop-again Inv-loop μ-loop
 loop-again c = search settling-more
 
 returns-2 : tie.Need-returns-2 Inv-loop μ-loop
-returns-2 c = (search settling-end, c .before .loop .inv .fair .low)
+returns-2 c = search settling-end
 
 pub settle-spec : {M : Type 1} → statement M
 settle-spec =

@@ -39,19 +39,19 @@ responses-requires : tie.Need-responses-requires
 responses-requires c κs = let s = c .before .before .before .before .before .before .before in (s .pre .3 (s .args .a), s .pre .1, s .pre .4 (s .args .a) (s .pre .0), c .before .before .fill .ensures .1 .1)
 
 returns : tie.Need-returns
-returns c = let s = c .before .before .before .before .before .before .before .before .before in let x = s .args in let p = s .pre in let f = c .before .before .before .before .fill in let r = c .before .responses in (turn-past (x .nums .now) (x .from .now) (x .also .now) (x .lengths .now) (x .busies .now) (x .reads .now) (x .n) (x .state .replies) (x .state .marks) (x .a) (p .0) (p .1) (p .5) (f .result) (f .ensures .0) (f .ensures .1 .1) (r .result .past) (r .result .best) (r .ensures .0) (search needs), unmarked-fair (x .state .replies) (x .state .marks) (p .5) (x .a) (search needs))
+returns c = let s = c .before .before .before .before .before .before .before .before .before in let x = s .args in let p = s .pre in let f = c .before .before .before .before .fill in let r = c .before .responses in (turn-past (x .nums .now) (x .from .now) (x .also .now) (x .lengths .now) (x .busies .now) (x .reads .now) (x .n) (x .state .replies) (x .state .marks) (x .a) (p .0) (p .1) (p .5) (f .result) (f .ensures .0) (f .ensures .1 .1) (r .result .past) (r .result .best) (r .ensures) (search needs), unmarked-fair (x .lengths .now) (x .n) (x .state .replies) (x .state .marks) (p .5) (x .a) (search needs))
 
 raise-requires : tie.Need-raise-requires
-raise-requires c κs = let s = c .before .before .before .before .before .before .before .before .before .before in (search needs, s .pre .3 (s .args .a), s .pre .5 .low, c .before .before .responses .ensures .1)
+raise-requires c κs = let s = c .before .before .before .before .before .before .before .before .before .before in (search needs, s .pre .3 (s .args .a), s .pre .5 .low, c .before .before .responses .ensures .within .low)
 
 returns-2 : tie.Need-returns-2
-returns-2 c = let s = c .before .before .before .before .before .before .before .before .before .before .before .before .before in let x = s .args in let p = s .pre in let f = c .before .before .before .before .before .before .before .before .fill in let r = c .before .before .before .before .before .responses in let q = c .before .before .raise in (turn-still (x .nums .now) (x .from .now) (x .also .now) (x .lengths .now) (x .busies .now) (x .reads .now) (x .n) (x .state .replies) (x .state .marks) (x .a) (p .0) (p .1) (p .5) (f .result) (f .ensures .0) (f .ensures .1 .1) (r .result .past) (r .result .best) (r .ensures .0) (search needs) (q .result .replies) (q .result .rose) (q .ensures) (search needs), unmarked-fair (x .state .replies) (x .state .marks) (p .5) (x .a) (search needs))
+returns-2 c = let s = c .before .before .before .before .before .before .before .before .before .before .before .before .before in let x = s .args in let p = s .pre in let f = c .before .before .before .before .before .before .before .before .fill in let r = c .before .before .before .before .before .responses in let q = c .before .before .raise in (turn-still (x .nums .now) (x .from .now) (x .also .now) (x .lengths .now) (x .busies .now) (x .reads .now) (x .n) (x .state .replies) (x .state .marks) (x .a) (p .0) (p .1) (p .5) (f .result) (f .ensures .0) (f .ensures .1 .1) (r .result .past) (r .result .best) (r .ensures) (search needs) (q .result .replies) (q .result .rose) (q .ensures) (search needs), unmarked-fair (x .lengths .now) (x .n) (x .state .replies) (x .state .marks) (p .5) (x .a) (search needs))
 
 mark-requires : tie.Need-mark-requires
-mark-requires c κs = let s = c .before .before .before .before .before .before .before .before .before .before .before .before .before .before in let x = s .args in (search needs, unmarked-fair (x .state .replies) (x .state .marks) (s .pre .5) (x .a) (search needs) .flags)
+mark-requires c κs = let s = c .before .before .before .before .before .before .before .before .before .before .before .before .before .before in let x = s .args in (search needs, unmarked-fair (x .lengths .now) (x .n) (x .state .replies) (x .state .marks) (s .pre .5) (x .a) (search needs) .flags)
 
 returns-3 : tie.Need-returns-3
-returns-3 c = let s = c .before .before .before .before .before .before .before .before .before .before .before .before .before .before .before in let x = s .args in let p = s .pre in let f = c .before .before .before .before .before .before .before .before .before .before .fill in let r = c .before .before .before .before .before .before .before .responses in let q = c .before .before .before .before .raise in (turn-raised (x .nums .now) (x .from .now) (x .also .now) (x .lengths .now) (x .busies .now) (x .reads .now) (x .n) (x .state .replies) (x .state .marks) (x .a) (p .0) (p .1) (p .5) (f .result) (f .ensures .0) (f .ensures .1 .1) (r .result .past) (r .result .best) (r .ensures .0) (c .before .before .before .before .before .before .if1 .left) (q .result .replies) (q .result .rose) (q .ensures) (c .mark .result) (c .mark .ensures) (search needs), raised-fair (x .nums .now) (x .from .now) (x .also .now) (x .lengths .now) (x .busies .now) (x .reads .now) (x .n) (x .state .replies) (x .state .marks) (x .a) (p .0) (p .1) (p .5) (f .result) (f .ensures .0) (f .ensures .1 .1) (r .result .past) (r .result .best) (r .ensures .0) (c .before .before .before .before .before .before .if1 .left) (q .result .replies) (q .result .rose) (q .ensures) (c .mark .result) (c .mark .ensures) (p .3 (x .a)))
+returns-3 c = let s = c .before .before .before .before .before .before .before .before .before .before .before .before .before .before .before in let x = s .args in let p = s .pre in let f = c .before .before .before .before .before .before .before .before .before .before .fill in let r = c .before .before .before .before .before .before .before .responses in let q = c .before .before .before .before .raise in (turn-raised (x .nums .now) (x .from .now) (x .also .now) (x .lengths .now) (x .busies .now) (x .reads .now) (x .n) (x .state .replies) (x .state .marks) (x .a) (p .0) (p .1) (p .5) (f .result) (f .ensures .0) (f .ensures .1 .1) (r .result .past) (r .result .best) (r .ensures) (c .before .before .before .before .before .before .if1 .left) (q .result .replies) (q .result .rose) (q .ensures) (c .mark .result) (c .mark .ensures) (search needs), raised-fair (x .nums .now) (x .from .now) (x .also .now) (x .lengths .now) (x .busies .now) (x .reads .now) (x .n) (x .state .replies) (x .state .marks) (x .a) (p .0) (p .1) (p .5) (f .result) (f .ensures .0) (f .ensures .1 .1) (r .result .past) (r .result .best) (r .ensures) (c .before .before .before .before .before .before .if1 .left) (q .result .replies) (q .result .rose) (q .ensures) (c .mark .result) (c .mark .ensures) (p .3 (x .a)))
 
 pub turn-spec : {M : Type 1} → statement M
 turn-spec =

@@ -21,7 +21,7 @@ array-write-slots : tie.Need-array-write-slots Inv-loop μ-loop
 array-write-slots c = search needs
 
 loop-holds : tie.Need-loop-holds Inv-loop μ-loop
-loop-holds c = let a = c .before .before .args in let p = c .before .before .pre in going-start (a .e .now) (a .n) (a .m) (a .u) (search needs) (a .run .slots) (a .run .best) (search needs) (search needs) (search needs) (p .3 .slots) (p .4)
+loop-holds c = let a = c .before .before .args in let p = c .before .before .pre in going-start (a .e .now) (a .n) (a .m) (a .u) (search needs) (a .run .slots) (a .run .best) (search needs) (search needs) (p .3 .slots) (p .4)
 
 mul-from : tie.Need-mul-from Inv-loop μ-loop
 mul-from c = search needs
@@ -39,7 +39,7 @@ enum-told : tie.Need-enum-told Inv-loop μ-loop
 enum-told c = search needs
 
 returns : tie.Need-returns Inv-loop μ-loop
-returns c = let a = c .before .before .before .before .before .before .before .args in let l = c .before .before .before .before .loop in let s = c .before .before .start-at in (λ W f t g. going-past (a .e .now) (a .n) (a .m) (a .u) (search needs) _ _ (l .slots) (l .best) (l .p) (l .inv) (search needs) (s .result) (s .ensures .0) (s .ensures .1) (c .enum-told .given .1) W f t (first-set (a .e .now) (a .n) (a .m) (a .u) (search needs) (a .run .slots) W g), (l .inv .small, l .inv .low))
+returns c = let a = c .before .before .before .before .before .before .before .args in let l = c .before .before .before .before .loop in let s = c .before .before .start-at in (λ W f t g. going-past (a .e .now) (a .n) (a .m) (a .u) (search needs) _ _ (l .slots) (l .best) (l .p) (l .inv) (search needs) (s .result) (s .ensures .0) (s .ensures .1) (c .enum-told .given .1) W f t (first-set (a .e .now) (a .n) (a .m) (a .u) (search needs) (a .run .slots) W g), (l .inv .small, l .inv .within))
 
 mul-slots : tie.Need-mul-slots Inv-loop μ-loop
 mul-slots c = search needs
@@ -90,7 +90,7 @@ loop-again : tie.Need-loop-again Inv-loop μ-loop
 loop-again c = let a = c .before .before .before .before .before .before .before .before .before .before .before .args in let l = c .before .before .before .before .before .before .before .before .loop in let s = c .before .before .before .before .before .before .start-at in going-more (a .e .now) (a .n) (a .m) (a .u) (search needs) _ _ (l .slots) (l .best) (l .p) (l .inv) (search needs) (s .result) (s .ensures .0) (s .ensures .1) _ _ (c .before .before .before .before .w .given .1) (omega arith) (search needs)
 
 returns-2 : tie.Need-returns-2 Inv-loop μ-loop
-returns-2 c = let a = c .before .before .before .before .args in let l = c .before .loop in (λ W f s g. going-end (a .e .now) (a .n) (a .m) (a .u) (search needs) _ _ (l .slots) (l .best) (l .p) (l .inv) (search needs) W f s (first-set (a .e .now) (a .n) (a .m) (a .u) (search needs) (a .run .slots) W g), (l .inv .small, l .inv .low))
+returns-2 c = let a = c .before .before .before .before .args in let l = c .before .loop in (λ W f s g. going-end (a .e .now) (a .n) (a .m) (a .u) (search needs) _ _ (l .slots) (l .best) (l .p) (l .inv) (search needs) W f s (first-set (a .e .now) (a .n) (a .m) (a .u) (search needs) (a .run .slots) W g), (l .inv .small, l .inv .within))
 
 pub instant-spec : {M : Type 1} → statement M
 instant-spec =

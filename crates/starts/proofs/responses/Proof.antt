@@ -19,10 +19,10 @@ loop-holds : tie.Need-loop-holds Inv-loop μ-loop
 loop-holds c = search tried-none
 
 instant-requires : tie.Need-instant-requires Inv-loop μ-loop
-instant-requires c κs = let p = c .before .before .pre in let t = c .before .loop .inv in (p .0, p .1, omega arith, record { sheet = p .3; slots = t .small }, t .low)
+instant-requires c κs = let p = c .before .before .pre in let t = c .before .loop .inv in (p .0, p .1, omega arith, record { sheet = p .3; slots = t .small }, t .within)
 
 returns : tie.Need-returns Inv-loop μ-loop
-returns c = (search tried-past, c .before .instant .ensures .1 .1)
+returns c = search tried-past
 
 add-u : tie.Need-add-u Inv-loop μ-loop
 add-u c = search needs
@@ -34,7 +34,7 @@ loop-again : tie.Need-loop-again Inv-loop μ-loop
 loop-again c = search tried-more
 
 returns-2 : tie.Need-returns-2 Inv-loop μ-loop
-returns-2 c = (search tried-all, c .before .loop .inv .low)
+returns-2 c = search tried-all
 
 pub responses-spec : {M : Type 1} → statement M
 responses-spec =
