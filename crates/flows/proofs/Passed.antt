@@ -2,10 +2,10 @@
 use Prim.Native.Nat.{ℕ, zero, suc, _+_, _-_, _<_, _≤_}
 use mathlib.Core.Path.{_≡_, refl, sym, ap, _∙_, subst}
 use mathlib.Core.Bool.{Bool, true, false, not, _&&_, false≢true}
-use mathlib.Core.List.{List, [], _∷_, List·Memᴰ, List·Memᴰ·head, List·Memᴰ·tail, List·Memᴰ·not-nil, List·Memᴰ·cases-cons}
-use mathlib.Core.Logic.{_⊎_, inl, inr, ⊎-elim}
+use mathlib.Core.List.{List, [], _∷_, List·Memᴰ, List·Memᴰ·not-nil, List·Memᴰ·cases-cons}
+use mathlib.Core.Logic.{_⊎_, ⊎-elim}
 use native.Mathlib.Omega.{arith}
-use lib.ListN.{length, getD, take, drop, drop-of-length-le, length-take}
+use lib.ListN.{length, getD, length-take}
 use lib.Seq.{getD-take, getD-drop}
 use lib.Dec.{leb, ltb, eqb}
 use borrow.Author.Tests.{eq-eqb, ne-eqb, eqb-true, eqb-false, le-leb, leb-true, ltb-true, ltb-false, not-true}
@@ -15,12 +15,11 @@ use Rattle.rules.specs.Formula.{visits}
 use Rattle.rules.specs.Valid.{Distinct, InRange}
 use Rattle.flows.specs.declared.Flow.{Flow}
 use Rattle.flows.specs.declared.Cause.{Cause}
-use Rattle.flows.specs.declared.Cause.the-variants.{Accepted, Delays, NumberZero, OutOfRange, NodeTwice}
-use Rattle.flows.specs.Refusals.{numberOf}
+use Rattle.flows.specs.declared.Cause.the-variants.{Accepted, Delays}
 use Rattle.flows.specs.Lists.{mostNodes, hopsOf, pathOf, unusedOf, flowOf}
 use Rattle.flows.specs.Tests.{mostDelay, mostCost, delayCause, every, hopFits, hopZero, rangesFit, distinct, newTo, nodesOf, flowCause}
-use Rattle.flows.specs.WellFormed.{Exactly, Between, DelaysFit, Ranges, Differ, WellFormed, OfDelays, delays-fit, delays-unfit, OfFlow, number-zero, out-of-range, node-twice, well-formed, Exact, Each, each-none, each-more, Typed}
-use Rattle.flows.proofs.Arrays.{nowhere, length-hops, hop-at, path-short, path-at, path-nodes, node-at}
+use Rattle.flows.specs.WellFormed.{Between, DelaysFit, Ranges, Differ, WellFormed, OfDelays, delays-fit, delays-unfit, OfFlow, number-zero, out-of-range, node-twice, well-formed, Exact, Each, each-none, each-more, Typed}
+use Rattle.flows.proofs.Arrays.{nowhere, hop-at, path-short, path-at, path-nodes}
 use Rattle.flows.proofs.Causes.{delays-crossed, delays-long, delays-in, cause-number, cause-range, cause-twice, cause-accepted}
 
 both : (a b : Bool) → (a && b) ≡ true → (a ≡ true) × (b ≡ true)

@@ -9,7 +9,6 @@ use mir.Val.{Fits}
 use mir.Syntax.{w8}
 use Rattle.flows.specs.declared.Answer.{Answer}
 use Rattle.flows.specs.declared.Flow.{Flow}
-use Rattle.flows.specs.declared.Cause.{Cause}
 use Rattle.flows.specs.declared.Cause.the-variants.{Accepted}
 use Rattle.flows.specs.Refusals.{numberOf, acceptedBy, flowNamed}
 use Rattle.flows.specs.Lists.{flowOf, tableNet}

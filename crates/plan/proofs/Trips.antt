@@ -14,7 +14,7 @@ use Rattle.flows.specs.declared.Flow.{Flow}
 use Rattle.flows.specs.declared.Cause.{Cause}
 use Rattle.flows.specs.declared.Cause.the-variants.{Accepted, Full, Malformed}
 use Rattle.flows.specs.Refusals.{acceptedBy}
-use Rattle.flows.specs.Lists.{mostFlows, noFlow, held, rowOf, netOf}
+use Rattle.flows.specs.Lists.{mostFlows, noFlow, rowOf, netOf}
 use Rattle.flows.specs.Tests.{delayCause, flowCause}
 use Rattle.flows.specs.WellFormed.{Each, each-none, each-more, Typed}
 use Rattle.row.specs.Rows.{lastNumber, Rising, rising-none, rising-more}
@@ -31,7 +31,7 @@ use Rattle.row.specs.Sets.{Readable}
 use Rattle.flows.proofs.Causes.{accepted-only}
 use Rattle.flows.proofs.Passed.{delays-formed, formed}
 use Rattle.row.proofs.Valid.{row-valid}
-use Rattle.row.proofs.Arrays.{held-rowOf, length-snoc}
+use Rattle.row.proofs.Arrays.{length-snoc}
 use Rattle.records.proofs.Writing.{length-flow}
 use Rattle.records.proofs.RoundTrip.{read-typed, flow-back, links-back, flow-again, links-again}
 use Rattle.reader.proofs.Places.{kind-end, kind-links, kind-flow, at-some, Whole, found}

@@ -1,7 +1,7 @@
 -- What reading and writing a whole plan promise: the demands, from the equations. Assumes nothing.
-use Prim.Native.Nat.{ℕ, _+_, _*_, _<_, _≤_}
-use mathlib.Core.Path.{_≡_, refl, sym, ap, _∙_, subst}
-use mathlib.Core.Bool.{Bool, true, false}
+use Prim.Native.Nat.{ℕ, _+_, _<_, _≤_}
+use mathlib.Core.Path.{_≡_, sym, ap, _∙_, subst}
+use mathlib.Core.Bool.{true}
 use mathlib.Core.List.{List, [], _++_, List·Memᴰ, List·Memᴰ·not-nil}
 use native.Mathlib.Omega.{arith}
 use lib.ListN.{length, getD, take, drop, length-append, length-drop}
@@ -22,7 +22,7 @@ use Rattle.plan.specs.declared.Written.{Written}
 use Rattle.plan.specs.declared.Written.the-variants.{Length, Refused}
 use Rattle.plan.specs.Writing.{planLength, writtenInto, bufferAfter}
 use Rattle.plan.proofs.Trips.{plan-long, plan-length}
-use Rattle.table.specs.Calls.{emptyTable, answered}
+use Rattle.table.specs.Calls.{emptyTable}
 use Rattle.table.specs.Made.{Made}
 use Rattle.table.specs.Demands.{Present}
 use Rattle.table.proofs.Kept.{made-right}

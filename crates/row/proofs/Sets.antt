@@ -1,27 +1,26 @@
 -- Rows in rising number: kept by insertion and removal, and determined by their flows; which of refusals 2 to 6 is given.
 use Prim.Native.Nat.{ℕ, suc, _≤_, _<_}
 use mathlib.Core.Path.{_≡_, refl, sym, ap, _∙_, subst}
-use mathlib.Core.Bool.{Bool, true, false, cond, false≢true}
+use mathlib.Core.Bool.{Bool, true, false, cond}
 use mathlib.Core.List.{List, [], _∷_, List·Memᴰ, List·Memᴰ·head, List·Memᴰ·tail, List·Memᴰ·not-nil, List·Memᴰ·cases-cons}
 use mathlib.Core.Logic.{_⊎_, inl, inr, ⊎-elim}
 use native.Mathlib.Omega.{arith}
 use native.Mathlib.Nat.{eq-or-lt-of-le}
 use lib.ListN.{length, getD}
 use lib.Dec.{eqb, leb, ltb}
-use borrow.Author.Tests.{eq-eqb, ne-eqb, eqb-true, eqb-false, lt-ltb, le-ltb, ltb-true, ltb-false, le-leb, lt-leb, leb-true, leb-false}
+use borrow.Author.Tests.{ne-eqb, eqb-true, eqb-false, lt-ltb, le-ltb, ltb-true, ltb-false, le-leb, lt-leb, leb-true, leb-false}
 use Rattle.flows.specs.declared.Flow.{Flow}
-use Rattle.flows.specs.Lists.{mostFlows, held, rowOf}
+use Rattle.flows.specs.Lists.{mostFlows}
 use Rattle.flows.specs.declared.Cause.{Cause}
 use Rattle.flows.specs.declared.Cause.the-variants.{Accepted, Present, Full}
 use Rattle.flows.specs.Refusals.{acceptedBy}
 use Rattle.flows.specs.Tests.{flowCause}
 use Rattle.flows.specs.WellFormed.{Exact, Each, each-none, each-more, Typed}
 use Rattle.row.specs.declared.Found.the-variants.{At, Nothing}
-use Rattle.row.specs.Rows.{firstOf, placeOf, foundIn, insertSorted, without, inserted, entryCause, Rising, rising-none, rising-more}
+use Rattle.row.specs.Rows.{firstOf, placeOf, foundIn, insertSorted, without, entryCause, Rising, rising-none, rising-more}
 use Rattle.flows.proofs.Causes.{accepted-only, not-accepted, refused-never}
 use Rattle.row.specs.Sets.{Lacks, Enters, OfEntry, by-itself, number-taken, no-room, let-in}
 use Rattle.flows.proofs.Passed.{flow-exact, formed, formed-passes}
-use Rattle.row.proofs.Arrays.{held-rowOf}
 
 -- ---- insertion and removal keep the numbers rising
 pub insert-rising : {n : ℕ} (f : Flow) (fs : List Flow) → n < f .number → Lacks (f .number) fs → Rising n fs → Rising n (insertSorted f fs)

@@ -31,9 +31,12 @@ pub record Row : Type 0 where
   pub net : Net
   pub expected : Judgement
 
--- Lmin = 1, and Lmax
+-- Lmin, Lmax
+between : ℕ → ℕ → List Flow → Judgement → Row
+between least most l e = record { net = record { lmin = least; lmax = most; flows = l }; expected = e }
+
 on : ℕ → List Flow → Judgement → Row
-on m l e = record { net = record { lmin = 1; lmax = m; flows = l }; expected = e }
+on m l e = between 1 m l e
 
 row : List Flow → Judgement → Row
 row l e = on 1 l e
@@ -80,6 +83,23 @@ apart =
     ∷ on 2 (flow 1 1 20 0 60 (hop 1 1 ∷ hop 2 1 ∷ []) ∷ []) (Given (fig 4 1 1 ∷ []))
     ∷ []
 
+-- Further sets of that kind: each stands below the reading that gives another figure.
+pub near : List Row
+near =
+    -- l in the order of j's path
+    between 0 0 (flow 1 0 20 0 60 (hop 1 1 ∷ hop 2 1 ∷ []) ∷ flow 2 1 4 1 60 (hop 2 1 ∷ hop 1 1 ∷ []) ∷ []) (Given (fig 4 2 2 ∷ fig 3 1 1 ∷ []))
+    -- Smin(j,g) left out of term 2
+    ∷ between 1 1 (flow 1 1 20 0 60 (hop 2 1 ∷ []) ∷ flow 2 1 2 0 60 (hop 1 1 ∷ hop 2 1 ∷ []) ∷ []) (Given (fig 2 1 2 ∷ fig 4 1 2 ∷ []))
+    -- own slowest cost, or slowest node, of the whole path
+    ∷ between 0 0 (flow 1 0 20 0 60 (hop 1 1 ∷ []) ∷ flow 2 1 3 0 60 (hop 2 1 ∷ hop 1 2 ∷ []) ∷ []) (Given (fig 3 2 3 ∷ fig 3 0 2 ∷ []))
+    -- V at the node before h
+    ∷ between 0 0 (flow 1 1 2 0 60 (hop 4 1 ∷ []) ∷ flow 2 0 20 0 60 (hop 4 1 ∷ hop 3 1 ∷ hop 2 1 ∷ []) ∷ []) (Given (fig 1 0 1 ∷ fig 4 1 2 ∷ []))
+    -- running along on the whole path in term 4
+    ∷ between 1 1 (flow 1 0 20 6 60 (hop 1 1 ∷ hop 2 2 ∷ []) ∷ flow 2 0 20 0 60 (hop 3 1 ∷ hop 2 1 ∷ hop 1 1 ∷ []) ∷ []) (Given (fig 11 7 3 ∷ fig 8 3 3 ∷ []))
+    -- M without the other flows
+    ∷ between 0 1 (flow 1 1 4 0 60 (hop 4 1 ∷ []) ∷ flow 2 1 20 0 60 (hop 2 1 ∷ []) ∷ flow 3 0 20 0 60 (hop 2 2 ∷ hop 4 1 ∷ []) ∷ []) (Given (fig 1 0 1 ∷ fig 2 1 1 ∷ fig 7 4 4 ∷ []))
+    ∷ []
+
 -- Paths that leave another path and meet it again, in each order and priority.
 pub crossed : List Row
 crossed =
@@ -101,13 +121,17 @@ Right [] = Unit {0}
 Right (r ∷ l) = (judged (r .net) ≡ r .expected) × Right l
 
 pub worked : Right rows
-unfolding Right rows hop flow plain fig on row count ceil sumOf maxOf minOf anyOf keep climb settleBy bestTo startTo horizon role visits prefix before lastNode firstOn lastOn there crossings smin runsAlong along leastCost M slowest weight ownWeight earliest slowestNode plusA lessA term1 term2 packets others term3 greatestCost term4 lowerCost term5 term6 sum load jitterOf busyLength start response arrivingBy arrivalsBy replies round pastHorizon total still rounds settle figures meetsAgain returns misplaced firstOr settledJudged loadJudged judged
+unfolding Right rows hop flow plain fig between on row count ceil sumOf maxOf minOf anyOf keep climb settleBy bestTo startTo horizon role visits prefix before lastNode firstOn lastOn there crossings smin runsAlong along leastCost M slowest weight ownWeight earliest slowestNode plusA lessA term1 term2 packets others term3 greatestCost term4 lowerCost term5 term6 sum load jitterOf busyLength start response arrivingBy arrivalsBy replies round pastHorizon total still rounds settle figures meetsAgain returns misplaced firstOr settledJudged loadJudged judged
 worked = (refl, (refl, (refl, (refl, (refl, (refl, (refl, (refl, (refl, (refl, (refl, (refl, tt))))))))))))
 
 pub told-apart : Right apart
-unfolding Right apart hop flow plain fig on row count ceil sumOf maxOf minOf anyOf keep climb settleBy bestTo startTo horizon role visits prefix before lastNode firstOn lastOn there crossings smin runsAlong along leastCost M slowest weight ownWeight earliest slowestNode plusA lessA term1 term2 packets others term3 greatestCost term4 lowerCost term5 term6 sum load jitterOf busyLength start response arrivingBy arrivalsBy replies round pastHorizon total still rounds settle figures meetsAgain returns misplaced firstOr settledJudged loadJudged judged
+unfolding Right apart hop flow plain fig between on row count ceil sumOf maxOf minOf anyOf keep climb settleBy bestTo startTo horizon role visits prefix before lastNode firstOn lastOn there crossings smin runsAlong along leastCost M slowest weight ownWeight earliest slowestNode plusA lessA term1 term2 packets others term3 greatestCost term4 lowerCost term5 term6 sum load jitterOf busyLength start response arrivingBy arrivalsBy replies round pastHorizon total still rounds settle figures meetsAgain returns misplaced firstOr settledJudged loadJudged judged
 told-apart = (refl, (refl, (refl, (refl, (refl, (refl, (refl, (refl, (refl, (refl, (refl, (refl, (refl, (refl, (refl, (refl, tt))))))))))))))))
 
+pub told-near : Right near
+unfolding Right near hop flow plain fig between on row count ceil sumOf maxOf minOf anyOf keep climb settleBy bestTo startTo horizon role visits prefix before lastNode firstOn lastOn there crossings smin runsAlong along leastCost M slowest weight ownWeight earliest slowestNode plusA lessA term1 term2 packets others term3 greatestCost term4 lowerCost term5 term6 sum load jitterOf busyLength start response arrivingBy arrivalsBy replies round pastHorizon total still rounds settle figures meetsAgain returns misplaced firstOr settledJudged loadJudged judged
+told-near = (refl, (refl, (refl, (refl, (refl, (refl, tt))))))
+
 pub kept-apart : Right crossed
-unfolding Right crossed hop flow plain fig on row count ceil sumOf maxOf minOf anyOf keep climb settleBy bestTo startTo horizon role visits prefix before lastNode firstOn lastOn there crossings smin runsAlong along leastCost M slowest weight ownWeight earliest slowestNode plusA lessA term1 term2 packets others term3 greatestCost term4 lowerCost term5 term6 sum load jitterOf busyLength start response arrivingBy arrivalsBy replies round pastHorizon total still rounds settle figures meetsAgain returns misplaced firstOr settledJudged loadJudged judged
+unfolding Right crossed hop flow plain fig between on row count ceil sumOf maxOf minOf anyOf keep climb settleBy bestTo startTo horizon role visits prefix before lastNode firstOn lastOn there crossings smin runsAlong along leastCost M slowest weight ownWeight earliest slowestNode plusA lessA term1 term2 packets others term3 greatestCost term4 lowerCost term5 term6 sum load jitterOf busyLength start response arrivingBy arrivalsBy replies round pastHorizon total still rounds settle figures meetsAgain returns misplaced firstOr settledJudged loadJudged judged
 kept-apart = (refl, (refl, (refl, (refl, (refl, (refl, (refl, (refl, (refl, (refl, (refl, tt)))))))))))

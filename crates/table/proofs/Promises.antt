@@ -8,7 +8,6 @@ use Rattle.flows.specs.declared.Flow.{Flow}
 use Rattle.flows.specs.declared.Table.{Table}
 use Rattle.flows.specs.declared.Answer.{Answer}
 use Rattle.flows.specs.declared.Asked.{Asked}
-use Rattle.flows.specs.declared.Cause.{Cause}
 use Rattle.flows.specs.declared.Cause.the-variants.{Accepted}
 use Rattle.flows.specs.Refusals.{acceptedBy}
 use Rattle.flows.specs.Lists.{held}

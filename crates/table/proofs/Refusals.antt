@@ -24,7 +24,7 @@ use Rattle.row.specs.Rows.{insertSorted, entryCause}
 use Rattle.row.specs.Sets.{Enters}
 use Rattle.row.proofs.Sets.{entry-exact, enters, entered}
 use Rattle.engine.specs.Verdicts.{refused, given, verdictFrom}
-use Rattle.table.specs.Calls.{answered, unless, decided, admitted}
+use Rattle.table.specs.Calls.{answered, unless, admitted}
 use Rattle.table.specs.Made.{Made}
 use Rattle.table.specs.Demands.{enlargedNet, CrossingPermitted, Unfit, no-busy-length, not-settled, past-deadline, OfAdmission, by-entry, by-set}
 use Rattle.table.proofs.Nets.{accepting}

@@ -23,13 +23,13 @@ use Rattle.flows.proofs.Passed.{each-member, formed}
 use Rattle.flows.proofs.Same.{same-flow}
 use Rattle.row.specs.Rows.{insertSorted, without}
 use Rattle.row.proofs.Arrays.{held-rowOf}
-use Rattle.row.specs.Sets.{Readable, Enters}
+use Rattle.row.specs.Sets.{Enters}
 use Rattle.row.proofs.Sets.{same-flows, without-only, entered}
 use Rattle.engine.specs.Verdicts.{given, verdictFrom}
 use Rattle.table.specs.Calls.{emptyTable, answered, unless, freshAnswer, holding, decided, judgedRow, admitted, withdrawnBy, withdrawn}
 use Rattle.table.specs.Made.{Made, by-fresh, by-admit}
 use Rattle.table.specs.Demands.{Present, SameSet}
-use Rattle.table.proofs.Kept.{Right, right-of, empty-right, admit-decided, withdraw-right, made-right}
+use Rattle.table.proofs.Kept.{Right, empty-right, admit-decided, withdraw-right, made-right}
 use Rattle.table.proofs.Figures.{right-valid, found-present}
 
 same-parts : (t u : Table) → t .lmin ≡ u .lmin → t .lmax ≡ u .lmax → t .row ≡ u .row → t .figures ≡ u .figures → t ≡ u

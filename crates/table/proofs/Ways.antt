@@ -13,7 +13,6 @@ use Rattle.flows.specs.declared.Row.{Row}
 use Rattle.flows.specs.declared.Table.{Table}
 use Rattle.flows.specs.declared.Refusal.{Refusal}
 use Rattle.flows.specs.declared.Answer.{Answer}
-use Rattle.flows.specs.declared.Asked.{Asked}
 use Rattle.flows.specs.declared.Asked.the-variants.{Given, Refused}
 use Rattle.flows.specs.declared.Cause.{Cause}
 use Rattle.flows.specs.declared.Cause.the-variants.{Accepted, Absent}
@@ -30,7 +29,7 @@ use Rattle.row.proofs.Sets.{found-flow, enters}
 use Rattle.engine.specs.declared.Verdict.{Verdict}
 use Rattle.engine.specs.Verdicts.{noFigures, verdictOf}
 use Rattle.table.specs.Calls.{emptyTable, answered, unless, freshAnswer, holding, decided, judgedRow, admitted, withdrawnBy, withdrawn, askedBy, askedFor}
-use Rattle.table.specs.Made.{Made, by-fresh, by-admit, by-withdraw}
+use Rattle.table.specs.Made.{Made}
 use Rattle.table.proofs.Kept.{kept-valid, admit-row, admit-kept, withdraw-kept, made-right}
 
 pub empty-made : (lmin lmax : ℕ) (row : Row) (none : Figures) → row ≡ rowOf [] → none ≡ noFigures →

@@ -1,7 +1,7 @@
 -- What each call promises of a table that calls made: RULES, demands, in the demands' words. The equations that callers use stand in Calls.
 use Prim.Native.Nat.{ℕ, _≤_, _<_}
 use mathlib.Core.Path.{_≡_}
-use mathlib.Core.List.{map, List·Memᴰ}
+use mathlib.Core.List.{List·Memᴰ}
 use mathlib.Core.Logic.{_⊎_}
 use Rattle.rules.specs.Net as net
 use Rattle.rules.specs.Formula.{Arrivals}
