@@ -1,7 +1,14 @@
-/* Kezhuvanam: judges plans of flows in a hall's network.
+/* Kezhuvanam: judges plans of flows in a hall's network. The rules are docs/RULES.md.
 
    Link with libhost.a (x86-64), which needs memcpy and memset and nothing else. Both functions read the len bytes at plan and nothing else,
-   keep nothing between calls, allocate nothing, and may be called from several threads. plan may be NULL if len is 0. */
+   keep nothing between calls, allocate nothing, and may be called from several threads. plan may be NULL if len is 0.
+
+   Stack: a call takes 424 KiB of stack, whatever the plan. A thread with less dies.
+
+   Time: a call ends on any plan, but how long it takes hangs on the plan's numbers and not on its length, and nothing stops it before. This plan
+   of 210 bytes takes minutes: six flows of one priority, Lmin = Lmax = 1, J = 0, D = 65,535, every cost 1 but the last flow's, which is 2; three
+   flows with T 3, 3 and 4 on seven nodes in the orders 2 6 5 7 4 1 3, 6 1 5 2 7 3 4 and 7 5 2 3 1 6 4; three with T 13, 157 and 65,535 on node 1
+   alone. So who must stay responsive calls on a thread of its own. */
 #ifndef KEZHUVANAM_H
 #define KEZHUVANAM_H
 
@@ -12,11 +19,18 @@
 extern "C" {
 #endif
 
+/* Bytes of stack for a thread that calls: room for a call, and 64 KiB for what else the thread does. */
+#define KEZHUVANAM_STACK (512 * 1024)
+
 /* 0 if the plan is accepted. Otherwise why not:
 
      code % 256            the refusal number, 1 to 12
-     code / 256 % 256      the flow that it names, 1 to 255, or 0 if it names none
-     code / 65536          the offset in the plan of the record that is refused, or 0
+     code / 256 % 256      the flow that 7, 8 and 10 name, 1 to 255; otherwise 0
+     code / 65536          the place
+
+   The place of 1, 2, 3, 4, 6 and 12 is the offset in the plan of the kind byte of the record that is refused; or the plan's length, if no kind byte
+   is left where a record must stand; or the offset of the byte after the end record, if there is one. The place of 7 to 10, which are of the
+   whole set, is 0. 5 and 11 are not given.
 
    1   Lmin > Lmax or Lmax > 4,095
    2   flow number 0

@@ -1,11 +1,27 @@
-/* The host's two functions on plans whose answers document 01 gives. Every expected number is written out here by hand. */
+/* The host's two functions on plans whose answers docs/RULES.md gives, called on a thread of KEZHUVANAM_STACK bytes. Every expected number is
+   written out here by hand. tests/host/run --stack: how much stack a call takes on one byte, on these plans and on one that takes long. */
+#define _POSIX_C_SOURCE 200809L
 #include <stddef.h>
 #include <stdint.h>
 
 #include "kezhuvanam.h"
 
-/* Where the kit's C library is linked, there are no headers of a C library. */
 int printf(const char *format, ...);
+
+#if __STDC_HOSTED__
+#include <pthread.h>
+#else
+/* Where the kit's C library is linked, there are no headers of a C library. These are glibc's types on x86-64. */
+typedef unsigned long pthread_t;
+typedef union {
+    char bytes[56];
+    long aligned;
+} pthread_attr_t;
+int pthread_attr_init(pthread_attr_t *attributes);
+int pthread_attr_setstack(pthread_attr_t *attributes, void *stack, size_t size);
+int pthread_create(pthread_t *thread, const pthread_attr_t *attributes, void *(*run)(void *), void *argument);
+int pthread_join(pthread_t thread, void **result);
+#endif
 
 #define TWO(x) (x) / 256, (x) % 256
 #define LINKS(least, most) 0x01, TWO(least), TWO(most)
@@ -25,7 +41,7 @@ int printf(const char *format, ...);
 
 typedef const uint8_t plan[];
 
-/* Document 01, "Plans tried by hand", by their numbers there. */
+/* RULES, cases, by their numbers there. */
 static plan case1 = {LINKS(1, 1), END};
 static plan case2 = {LINKS(1, 1), FLOW(1, 1, 20, 0, 60, 2), NODES(1, 2, 0), COSTS(4, 4, 0), END};
 static plan case3 = {LINKS(1, 1), ALONE(1, 1, 10, 0, 60, 3), ALONE(2, 1, 20, 0, 60, 5), END};
@@ -50,7 +66,7 @@ static plan case14 = {LINKS(1, 1), ALONE(1, 1, 10, 0, 60, 3), END};
 static plan last_number = {LINKS(1, 1), ALONE(255, 1, 10, 0, 60, 3), END};
 static plan sixteen = {LINKS(1, 1), SIXTEEN, END};
 
-/* Refused records: the first one's kind byte is at 5, the second's at 39, a seventeenth's at 549. */
+/* RULES, refusals. The first flow's kind byte is at 5, the second's at 39, a seventeenth's at 549. */
 static plan delays_exchanged = {LINKS(2, 1), END};
 static plan number_0 = {LINKS(1, 1), ALONE(0, 1, 10, 0, 60, 3), END};
 static plan period_0 = {LINKS(1, 1), ALONE(1, 1, 10, 0, 60, 3), ALONE(2, 1, 0, 0, 60, 5), END};
@@ -177,8 +193,83 @@ static int bound_all(void) {
     return differences;
 }
 
-int main(void) {
-    int differences = judge_all() + bound_all();
-    printf("host: %u calls, %d differences\n", (unsigned)(COUNT(judged) + COUNT(bounded)), differences);
-    return differences != 0;
+/* Sixteen flows over the same eight nodes, three priorities, busy for 58,400 ticks. */
+#define EIGHT(x) x, x, x, x, x, x, x, x
+#define BUSY(number, priority, period, cost) \
+    FLOW(number, priority, period, 0, 65535, 8), 1, 2, 3, 4, 5, 6, 7, 8, EIGHT(TWO(cost))
+#define TWO_BUSY(number, priority, next) BUSY(number, priority, 20000, 1300), BUSY(number + 1, next, 30000, 1700)
+#define SIX_BUSY(number) TWO_BUSY(number, 0, 1), TWO_BUSY(number + 2, 2, 0), TWO_BUSY(number + 4, 1, 2)
+static plan hall = {LINKS(1, 2), SIX_BUSY(1), SIX_BUSY(7), TWO_BUSY(13, 0, 1), TWO_BUSY(15, 2, 0), END};
+
+static int differences;
+
+static void on_one_byte(void) { differences += kezhuvanam_judge(no_links, sizeof(no_links)) != 12; }
+
+static void on_all(void) { differences += judge_all() + bound_all(); }
+
+static void on_hall(void) { differences += kezhuvanam_judge(WHOLE(hall)) != 0; }
+
+/* The thread's stack is the upper half. All is filled before the thread starts, so that the lowest byte that it changed tells how deep it went;
+   the lower half, below its stack, must stay as it is. */
+static _Alignas(64) unsigned char memory[2 * KEZHUVANAM_STACK];
+#define FILLED 0xA5
+
+static void (*calls)(void);
+static size_t top;
+
+static void *thread_runs(void *unused) {
+    unsigned char here;
+    top = (size_t)((uintptr_t)&here - (uintptr_t)memory);
+    calls();
+    return unused;
+}
+
+/* Bytes of stack that the calls took; 0 if they did not run, or went below the thread's stack. */
+static size_t taken_by(void (*to_run)(void)) {
+    pthread_attr_t attributes;
+    pthread_t thread;
+    size_t lowest = 0;
+    for (size_t k = 0; k < sizeof(memory); k++) memory[k] = FILLED;
+    calls = to_run;
+    if (pthread_attr_init(&attributes) != 0 ||
+        pthread_attr_setstack(&attributes, memory + KEZHUVANAM_STACK, KEZHUVANAM_STACK) != 0 ||
+        pthread_create(&thread, &attributes, thread_runs, NULL) != 0 || pthread_join(thread, NULL) != 0) {
+        printf("host: no thread\n");
+        return 0;
+    }
+    while (memory[lowest] == FILLED) lowest++;
+    if (lowest < KEZHUVANAM_STACK) {
+        printf("host: a call goes %lu bytes below a stack of KEZHUVANAM_STACK bytes\n",
+               (unsigned long)(KEZHUVANAM_STACK - lowest));
+        return 0;
+    }
+    return top - lowest;
+}
+
+/* Whole KiB, rounded up. */
+static unsigned kib(size_t bytes) { return (unsigned)((bytes + 1023) / 1024); }
+
+/* HEADER_KIB is what the header says that a call takes. How much of it a C library's memcpy takes is its own matter. */
+static int as_the_header_says(size_t taken) {
+    if (taken == 0) return 0;
+    if (kib(taken) > HEADER_KIB + 2 || kib(taken) + 2 < HEADER_KIB || taken + 64 * 1024 > KEZHUVANAM_STACK) {
+        printf("host: a call takes %u KiB of stack, and the header says %u of %u\n", kib(taken), HEADER_KIB,
+               kib(KEZHUVANAM_STACK));
+        return 0;
+    }
+    return 1;
+}
+
+int main(int words, char **word) {
+    size_t taken = taken_by(on_all);
+    int right = as_the_header_says(taken);
+    (void)word;
+    if (words > 1) {
+        printf("one byte: %lu bytes of stack\n", (unsigned long)taken_by(on_one_byte));
+        printf("every plan of this test: %lu\n", (unsigned long)taken);
+        printf("sixteen flows of eight nodes, busy for 58,400 ticks: %lu\n", (unsigned long)taken_by(on_hall));
+    }
+    printf("host: %u calls on a thread of %u KiB, of which a call takes %u, %d differences\n",
+           (unsigned)(COUNT(judged) + COUNT(bounded)), kib(KEZHUVANAM_STACK), kib(taken), differences);
+    return differences != 0 || !right;
 }
