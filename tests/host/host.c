@@ -78,6 +78,7 @@ static plan byte_after_end = {LINKS(1, 1), SIXTEEN, END, END};
 
 #define WHOLE(p) p, sizeof(p)
 
+/* RULES, host calls: number + 256 * flow + 65536 * place. */
 static const struct {
     const char *name;
     const uint8_t *plan;
@@ -116,6 +117,7 @@ static const struct {
     {"empty plan", NULL, 0, 12},
 };
 
+/* RULES, host calls: a flow's bound, or 0. */
 static const struct {
     const char *name;
     const uint8_t *plan;
