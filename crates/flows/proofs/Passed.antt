@@ -29,6 +29,13 @@ both false b e = absurd (false≢true e)
 join : (a b : Bool) → a ≡ true → b ≡ true → (a && b) ≡ true
 join a b e h = rw (e, h)
 
+-- ---- given exactly when the rules say so: it is one of those causes, and the only one
+pub exact-from : (Of : Cause → Type 0) (r : Cause) → Of r → ((c : Cause) → Of c → c ≡ r) → Exact r Of
+exact-from Of r o only c = (λ e. subst Of e o, λ g. sym (only c g))
+
+pub exact-as : (Of : Cause → Type 0) (r s : Cause) → r ≡ s → Exact s Of → Exact r Of
+exact-as Of r s e x c = (λ q. x c .0 (sym e ∙ q), λ g. e ∙ x c .1 g)
+
 -- ---- a test of every element, by places
 module _ {A : Type 0} (p : A → Bool) (d : A) where
   every-at : (l : List A) → every p l ≡ true → (k : ℕ) → k < length l → p (getD l k d) ≡ true
@@ -226,10 +233,10 @@ module _ (f : Flow) (t : Typed f) where
 
   -- Refusals 2 to 4: each is given exactly when the rules say so
   pub flow-exact : Exact (flowCause f) (OfFlow f)
-  flow-exact c = (λ e. subst (OfFlow f) e of-flow, λ g. sym (flow-only c g))
+  flow-exact = exact-from (OfFlow f) (flowCause f) of-flow flow-only
 
   pub flow-given : (r : Cause) → r ≡ flowCause f → Exact r (OfFlow f)
-  flow-given r e c = (λ q. flow-exact c .0 (sym e ∙ q), λ g. e ∙ flow-exact c .1 g)
+  flow-given r e = exact-as (OfFlow f) r (flowCause f) e flow-exact
 
   -- Accepted exactly if well formed
   pub formed : flowCause f ≡ Accepted → WellFormed f
@@ -268,10 +275,10 @@ module _ (lmin lmax : ℕ) where
 
   -- Refusal 1 is given exactly when the rules say so
   pub delays-exact : Exact (delayCause lmin lmax) (OfDelays lmin lmax)
-  delays-exact c = (λ e. subst (OfDelays lmin lmax) e of-delays, λ g. sym (delays-only c g))
+  delays-exact = exact-from (OfDelays lmin lmax) (delayCause lmin lmax) of-delays delays-only
 
   pub delays-given : (r : Cause) → r ≡ delayCause lmin lmax → Exact r (OfDelays lmin lmax)
-  delays-given r e c = (λ q. delays-exact c .0 (sym e ∙ q), λ g. e ∙ delays-exact c .1 g)
+  delays-given r e = exact-as (OfDelays lmin lmax) r (delayCause lmin lmax) e delays-exact
 
   pub delays-formed : delayCause lmin lmax ≡ Accepted → DelaysFit lmin lmax
   delays-formed e = go (delays-exact Accepted .0 e)

@@ -20,7 +20,7 @@ use Rattle.row.specs.declared.Found.the-variants.{At, Nothing}
 use Rattle.row.specs.Rows.{firstOf, placeOf, foundIn, insertSorted, without, entryCause, Rising, rising-none, rising-more}
 use Rattle.flows.proofs.Causes.{accepted-only, not-accepted, refused-never}
 use Rattle.row.specs.Sets.{Lacks, Enters, OfEntry, by-itself, number-taken, no-room, let-in}
-use Rattle.flows.proofs.Passed.{flow-exact, formed, formed-passes}
+use Rattle.flows.proofs.Passed.{exact-from, exact-as, flow-exact, formed, formed-passes}
 
 -- ---- insertion and removal keep the numbers rising
 pub insert-rising : {n : ℕ} (f : Flow) (fs : List Flow) → n < f .number → Lacks (f .number) fs → Rising n fs → Rising n (insertSorted f fs)
@@ -270,10 +270,10 @@ module _ (fs : List Flow) (f : Flow) where
 
     -- Refusals 2 to 6: each is given exactly when the rules say so
     pub entry-exact : Exact (entryCause fs f) (OfEntry fs f)
-    entry-exact c = (λ e. subst (OfEntry fs f) e of-entry, λ g. sym (entry-only c g))
+    entry-exact = exact-from (OfEntry fs f) (entryCause fs f) of-entry entry-only
 
     pub entry-given : (r : Cause) → r ≡ entryCause fs f → Exact r (OfEntry fs f)
-    entry-given r e c = (λ q. entry-exact c .0 (sym e ∙ q), λ g. e ∙ entry-exact c .1 g)
+    entry-given r e = exact-as (OfEntry fs f) r (entryCause fs f) e entry-exact
 
     pub enters : entryCause fs f ≡ Accepted → Enters fs f
     enters e = go (entry-exact Accepted .0 e)

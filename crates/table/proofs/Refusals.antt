@@ -20,6 +20,7 @@ use Rattle.flows.specs.Refusals.{acceptedBy}
 use Rattle.flows.specs.Lists.{held, rowOf}
 use Rattle.flows.specs.WellFormed.{Exactly, Exact, Typed}
 use Rattle.flows.proofs.Causes.{accepted-only, not-accepted, refused-never}
+use Rattle.flows.proofs.Passed.{exact-from}
 use Rattle.row.specs.Rows.{insertSorted, entryCause}
 use Rattle.row.specs.Sets.{Enters}
 use Rattle.row.proofs.Sets.{entry-exact, enters, entered}
@@ -96,4 +97,4 @@ module _ (t : Table) (made : Made t) (f : Flow) (u : Typed f) where
       ap (λ (w : net.Judgement). verdictFrom w .cause) (judged-unique N (enlarged-valid n) v (judged N) j (judged-is N (enlarged-valid n))) ∙ sym (set-cause n)
 
   pub admission-exact : Exact (admitted t f .cause) (OfAdmission t f)
-  admission-exact c = (λ e. subst (OfAdmission t f) e of-admission, λ o. sym (admission-only c o))
+  admission-exact = exact-from (OfAdmission t f) (admitted t f .cause) of-admission admission-only
