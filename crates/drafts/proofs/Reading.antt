@@ -14,8 +14,8 @@ use Rattle.rules.specs.Net.{Net}
 use Rattle.rules.specs.Net as net
 use Rattle.rules.specs.Formula.{Role, Own, Higher, Equal, Lower, role, higherOrEqual, slowest, Crossing, crossings, weight, Key, Arrivals}
 use Rattle.rules.specs.Valid.{Valid}
+use Rattle.rules.specs.Ready.{Agree}
 use Rattle.rules.proofs.Shared.{shared, slowest-shared}
-use Rattle.rules.proofs.Agree.{Agree}
 use Rattle.flows.specs.declared.Flow.{Flow}
 use Rattle.flows.specs.declared.Row.{Row}
 use Rattle.flows.specs.Lists.{noFlow, flowOf, held}

@@ -17,7 +17,7 @@ use Rattle.rules.specs.Formula.{horizon, least, lastNode, jitterOf, Arrivals}
 use Rattle.rules.specs.Meaning.{Here, unsettled}
 use Rattle.rules.specs.Valid.{Valid}
 use Rattle.rules.specs.Judge.{busyLength, response, figures, misplaced, firstOr, settledJudged, loadJudged, judged}
-use Rattle.rules.proofs.Busy.{Ready}
+use Rattle.rules.specs.Ready.{Ready}
 use Rattle.rules.proofs.Valid.{sound}
 use Rattle.rules.proofs.Judge.{settles-by, settles-is, settles-unique, judged-is, judged-unique}
 use Rattle.flows.specs.declared.Figures.{Figures}

@@ -13,15 +13,9 @@ use Rattle.rules.specs.Net.{Flow, Net}
 use Rattle.rules.specs.Formula.{Role, Own, Higher, Equal, Lower, role, prefix, firstOn, lastOn, smin, Crossing, crossings, Arrivals, weight, plusA, lessA, term1, term2, packets, others, sum}
 use Rattle.rules.specs.Meaning.{On}
 use Rattle.rules.specs.Judge.{response}
+use Rattle.rules.specs.Ready.{Ready, Agree}
 use Rattle.rules.proofs.Grow.{slowest-prefix}
-use Rattle.rules.proofs.Busy.{Ready}
 use Rattle.rules.proofs.Start.{response-is, response-found}
-
--- S and S′ agree on what i reads
-pub record Agree (N : Net) (i : Flow) (S S′ : Arrivals) : Type 0 where
-  pub higher : (j : Crossing) → List·Memᴰ j (crossings N i) → 0 < weight (i .path) j → role i (j .flow) ≡ Higher → (h : ℕ) → S (j .flow .number, h) ≡ S′ (j .flow .number, h)
-  pub equal : (j : Crossing) → List·Memᴰ j (crossings N i) → 0 < weight (i .path) j → role i (j .flow) ≡ Equal → (h : ℕ) → S (j .flow .number, h) ≡ S′ (j .flow .number, h)
-  pub own : (j : Crossing) → List·Memᴰ j (crossings N i) → 0 < weight (i .path) j → role i (j .flow) ≡ Equal → (h : ℕ) → S (i .number, h) ≡ S′ (i .number, h)
 
 module _ (N : Net) (i : Flow) (S S′ : Arrivals) (agree : Agree N i S S′) where
   product : (c c′ s t : ℕ) → s ≤ t → (0 < t → c ≡ c′) → c * s ≡ c′ * s

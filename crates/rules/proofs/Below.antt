@@ -19,9 +19,10 @@ use Rattle.rules.specs.Net.{Hop, Flow, Net}
 use Rattle.rules.specs.Formula.{visits, costAt, Key, Arrivals, sum, load, arriving, arrivals}
 use Rattle.rules.specs.Meaning.{On, Here, IsStart, IsResponse}
 use Rattle.rules.specs.Judge.{busyLength, response}
+use Rattle.rules.specs.Ready.{Sound, Ready, next}
 use Rattle.rules.proofs.Path.{order, visits-member}
 use Rattle.rules.proofs.Grow.{Part, load-part, sum-grows}
-use Rattle.rules.proofs.Busy.{Sound, Ready, load-zero, busy-lowest, busy-fixed, busy-positive}
+use Rattle.rules.proofs.Busy.{load-zero, busy-lowest, busy-fixed, busy-positive}
 use Rattle.rules.proofs.Start.{meant-starts, response-is}
 
 -- i in N lies below i′ in N′. Instants are compared at the same t: u = t + J of i against u + later = t + J of i′.
@@ -100,10 +101,6 @@ arrivals-le N N′ hm f R R′ here number path le k = max-under (entry N R k) (
         (pick-le (eqb (i .number) (k .0))
         (arriving-le hm (R i) (R′ (f i)) (i .path) (λ q r. le i m (q .node) (visits-member r)) 0 0 (le-refl 0) (k .1)) (le-refl 0))
         (le-trans (le-of-eq (same i m)) (max-at (entry N′ R′ k) (here i m)))
-
--- the arrival bounds that the arrival bounds S lead to
-abbrev pub next : Net → Arrivals → Arrivals
-next N S = arrivals N (λ i. response N i S)
 
 pub next-below : (N N′ : Net) (below : Below N N′) → ((i : Flow) → Here N i → Ready N i) → ((i : Flow) → Here N′ i → Ready N′ i) →
     (S S′ : Arrivals) → S ⊑ S′ → next N S ⊑ next N′ S′

@@ -1,7 +1,6 @@
 -- The busy length is the one that is meant, or there is none. Assumes nothing.
 use mathlib.Core.Path.{_≡_, ap}
 use mathlib.Core.Bool.{Bool, true, false}
-use mathlib.Core.List.{List·Memᴰ}
 use Prim.Native.Nat.{ℕ, _*_, _≤_, _<_}
 use native.Mathlib.Omega.{arith}
 use native.Mathlib.Nat.{le-refl, mul-le-mul, mul-le-mul-right}
@@ -14,18 +13,8 @@ use Rattle.rules.specs.Net.{Flow, Net}
 use Rattle.rules.specs.Formula.{horizon, role, higherOrEqual, crossings, weight, ownWeight, load}
 use Rattle.rules.specs.Meaning.{IsBusy}
 use Rattle.rules.specs.Judge.{busyLength}
+use Rattle.rules.specs.Ready.{Sound, Ready}
 use Rattle.rules.proofs.Grow.{othersLoad, load-is, crossing-flow}
-
--- what of the ranges the sums of i need
-pub record Sound (N : Net) (i : Flow) : Type 0 where
-  pub periods : (j : Flow) → List·Memᴰ j (N .flows) → 0 < j .period
-  pub period : 0 < i .period
-  pub cost : 0 < ownWeight (i .path) i
-
--- and a busy length
-pub record Ready (N : Net) (i : Flow) : Type 0 where
-  pub sound : Sound N i
-  pub busy : busyLength N i ≤ horizon
 
 pub busy-unique : (N : Net) (i : Flow) (B C : ℕ) → IsBusy N i B → IsBusy N i C → B ≡ C
 busy-unique N i B C p q = smallest-unique (p .smallest) (q .smallest)

@@ -14,8 +14,9 @@ use Rattle.rules.specs.Formula.{horizon, lastNode, Arrivals, jitterOf}
 use Rattle.rules.specs.Meaning.{On, Here, LeastSettled, IsFigures, Lowest, applies, passes, Settles, unsettled, settled, Judged}
 use Rattle.rules.specs.Valid.{RisingNumbers, Valid}
 use Rattle.rules.specs.Judge.{busyLength, arrivalsBy, pastHorizon, settle, figures, misplaced, firstOr, settledJudged, loadJudged, judged}
+use Rattle.rules.specs.Ready.{Sound, Ready}
 use Rattle.rules.proofs.Path.{last-visited}
-use Rattle.rules.proofs.Busy.{Sound, Ready, busy-is, busy-none, busy-unique}
+use Rattle.rules.proofs.Busy.{busy-is, busy-none, busy-unique}
 use Rattle.rules.proofs.Start.{response-is, response-rises}
 use Rattle.rules.proofs.Settle.{least-settled-unique}
 use Rattle.rules.proofs.Crossing.{placed-permitted, misplaced-broken}

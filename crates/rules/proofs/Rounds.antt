@@ -19,9 +19,9 @@ use Rattle.rules.specs.Net.{Hop, Flow, Net}
 use Rattle.rules.specs.Formula.{horizon, Key, Arrivals, arriving, arrivals}
 use Rattle.rules.specs.Meaning.{On, Here, Settled, LeastSettled}
 use Rattle.rules.specs.Judge.{response, Reply, arrivingBy, arrivalsBy, replies, round, pastHorizon, total, still, rounds, settle}
+use Rattle.rules.specs.Ready.{Ready, next}
 use Rattle.rules.proofs.Path.{visits-member, visits-hop}
-use Rattle.rules.proofs.Busy.{Ready}
-use Rattle.rules.proofs.Below.{arrivals-le, next}
+use Rattle.rules.proofs.Below.{arrivals-le}
 use Rattle.rules.proofs.Settle.{next-rising, responses-rise, past-none, rest-least}
 
 -- the arrival bounds of replies are the next ones

@@ -16,10 +16,10 @@ use Rattle.rules.specs.Net.{Hop, Flow, Net}
 use Rattle.rules.specs.Formula.{horizon, Key, Arrivals, arriving, arrivals}
 use Rattle.rules.specs.Meaning.{On, Here, Settled, LeastSettled}
 use Rattle.rules.specs.Judge.{response}
+use Rattle.rules.specs.Ready.{Ready, next}
 use Rattle.rules.proofs.Grow.{part-refl}
-use Rattle.rules.proofs.Busy.{Ready}
 use Rattle.rules.proofs.Start.{response-is, response-found, response-rises}
-use Rattle.rules.proofs.Below.{arrivals-le, next, next-below, part-below}
+use Rattle.rules.proofs.Below.{arrivals-le, next-below, part-below}
 
 -- the places that count: elsewhere an arrival bound is 0
 hopKeys : ℕ → List Hop → List Key

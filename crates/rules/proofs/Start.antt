@@ -13,9 +13,10 @@ use Rattle.rules.specs.Net.{Flow, Net}
 use Rattle.rules.specs.Formula.{costAt, Arrivals, sum}
 use Rattle.rules.specs.Meaning.{On, IsStart, IsResponse}
 use Rattle.rules.specs.Judge.{busyLength, start, response}
+use Rattle.rules.specs.Ready.{Sound, Ready}
 use Rattle.rules.proofs.Path.{order, rank-below}
 use Rattle.rules.proofs.Grow.{part-refl, load-is, sum-grows, sum-grows-slower}
-use Rattle.rules.proofs.Busy.{Sound, Ready, load-zero, own-load, busy-fixed, busy-positive}
+use Rattle.rules.proofs.Busy.{load-zero, own-load, busy-fixed, busy-positive}
 
 module _ (N : Net) (i : Flow) (ok : Sound N i) where
   -- the sum rises with the arrival bounds, the instant and the starting times

@@ -10,8 +10,8 @@ use Rattle.rules.specs.Net.{Hop, Flow, Net}
 use Rattle.rules.specs.Formula.{ownWeight}
 use Rattle.rules.specs.Meaning.{Here}
 use Rattle.rules.specs.Valid.{InRange, RisingNumbers, Valid}
+use Rattle.rules.specs.Ready.{Sound}
 use Rattle.rules.proofs.Path.{visits-member, slowest-at}
-use Rattle.rules.proofs.Busy.{Sound}
 
 some-hop : (l : List Hop) → 0 < length l → (k : Hop) × List·Memᴰ k l
 some-hop [] h = absurd (omega arith)

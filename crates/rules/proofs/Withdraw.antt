@@ -11,10 +11,11 @@ use Rattle.rules.specs.Formula.{horizon, lastNode, Arrivals}
 use Rattle.rules.specs.Meaning.{On, Here, IsBusy, IsBound, IsResponse, Settled, LeastSettled, Permitted}
 use Rattle.rules.specs.Valid.{Valid}
 use Rattle.rules.specs.Judge.{busyLength, response}
+use Rattle.rules.specs.Ready.{Ready, next}
 use Rattle.rules.proofs.Path.{last-visited}
-use Rattle.rules.proofs.Busy.{Ready, busy-is, busy-found}
+use Rattle.rules.proofs.Busy.{busy-is, busy-found}
 use Rattle.rules.proofs.Start.{response-is}
-use Rattle.rules.proofs.Below.{Below, next, next-below, ready-below, busy-below, response-below, on-partner, part-below}
+use Rattle.rules.proofs.Below.{Below, next-below, ready-below, busy-below, response-below, on-partner, part-below}
 use Rattle.rules.proofs.Settle.{settled-fixed, settled-within, least-below}
 use Rattle.rules.proofs.Valid.{sound, valid-part}
 

@@ -4,4 +4,5 @@ pub mod Formula
 pub mod Meaning
 pub mod Valid
 pub mod Judge
+pub mod Ready
 pub mod Cases

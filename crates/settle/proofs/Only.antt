@@ -12,7 +12,7 @@ use Rattle.least.proofs.Count.{le-or-lt}
 use Rattle.rules.specs.Net.{Flow, Net}
 use Rattle.rules.specs.Meaning.{Here}
 use Rattle.rules.specs.Valid.{Valid}
-use Rattle.rules.proofs.Busy.{Ready}
+use Rattle.rules.specs.Ready.{Ready}
 use Rattle.rules.proofs.Settle.{responses-rise, least-settled-unique}
 use Rattle.paths.proofs.Places.{visits-at}
 use Rattle.starts.specs.Sheet.{mostNodes, values}

@@ -9,7 +9,7 @@ use Rattle.rules.specs.Net.{Flow, Net}
 use Rattle.rules.specs.Formula.{horizon}
 use Rattle.rules.specs.Meaning.{Here}
 use Rattle.rules.specs.Valid.{Valid}
-use Rattle.rules.proofs.Busy.{Ready}
+use Rattle.rules.specs.Ready.{Ready}
 use Rattle.starts.specs.Sheet.{mostFlows, mostNodes}
 use Rattle.sheets.specs.Setup.{Setup}
 use Rattle.sheets.proofs.Filling.{same-at, same-low, zeros}

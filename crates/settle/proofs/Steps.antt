@@ -18,8 +18,8 @@ use Rattle.rules.specs.Formula.{horizon, Key, Arrivals, arriving, arrivals}
 use Rattle.rules.specs.Meaning.{On, Here, Settled}
 use Rattle.rules.specs.Valid.{Valid}
 use Rattle.rules.specs.Judge.{response}
-use Rattle.rules.proofs.Busy.{Ready}
-use Rattle.rules.proofs.Below.{arriving-le, arrivals-le, next}
+use Rattle.rules.specs.Ready.{Ready, next}
+use Rattle.rules.proofs.Below.{arriving-le, arrivals-le}
 use Rattle.rules.proofs.Path.{visits-member}
 use Rattle.rules.proofs.Settle.{next-rising, responses-rise, past-none, rest-least}
 use Rattle.rules.proofs.Agree.{response-agree}

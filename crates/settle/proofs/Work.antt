@@ -17,7 +17,7 @@ use Rattle.rules.specs.Formula.{horizon}
 use Rattle.rules.specs.Meaning.{Here}
 use Rattle.rules.specs.Valid.{Valid}
 use Rattle.rules.specs.Judge.{busyLength}
-use Rattle.rules.proofs.Busy.{Ready}
+use Rattle.rules.specs.Ready.{Ready}
 use Rattle.starts.specs.Sheet.{mostFlows, mostNodes, mostTime, blockSize, values, Small}
 use Rattle.starts.specs.Runs.{ResponsesAre}
 use Rattle.starts.proofs.Nodes.{set-cases}

@@ -9,7 +9,7 @@ use Rattle.rules.specs.Net.{Net}
 use Rattle.rules.specs.Formula.{Arrivals, arrivals}
 use Rattle.rules.specs.Meaning.{Settled, LeastSettled}
 use Rattle.rules.specs.Judge.{response}
-use Rattle.rules.proofs.Below.{next}
+use Rattle.rules.specs.Ready.{next}
 use Rattle.starts.specs.Sheet.{mostNodes, values}
 use Rattle.sheets.specs.Fields.{flowAt, nodeAt, responsesIn}
 

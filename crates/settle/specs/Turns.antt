@@ -14,7 +14,7 @@ use Rattle.rules.specs.Net.{Flow, Net}
 use Rattle.rules.specs.Formula.{Arrivals}
 use Rattle.rules.specs.Meaning.{Here, Settled}
 use Rattle.rules.specs.Valid.{Valid}
-use Rattle.rules.proofs.Busy.{Ready}
+use Rattle.rules.specs.Ready.{Ready}
 use Rattle.settle.specs.Good.{held, Good, Outcome}
 
 -- all response bounds together

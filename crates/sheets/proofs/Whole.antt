@@ -18,8 +18,8 @@ use Rattle.rules.specs.Net.{Flow, Net}
 use Rattle.rules.specs.Formula.{horizon, Role, Own, Higher, Equal, Lower, role, visits, prefix, before, lastOn, costAt, slowest, ownWeight, Arrivals, term3, term4, term5, term6, sum, arrivals}
 use Rattle.rules.specs.Valid.{Valid}
 use Rattle.rules.specs.Judge.{busyLength, start, response}
+use Rattle.rules.specs.Ready.{Ready}
 use Rattle.rules.proofs.Path.{last-cases, before-less, before-visits}
-use Rattle.rules.proofs.Busy.{Ready}
 use Rattle.rules.proofs.Start.{sum-rising, meant-starts, start-unique, start-is, response-is}
 use Rattle.rules.proofs.Exact.{cost-slowest}
 use Rattle.paths.specs.Paths.{positionOf}

@@ -6,7 +6,7 @@ use lib.ListN.{length}
 use Rattle.rules.specs.Net.{Net}
 use Rattle.rules.specs.Formula.{Key, Arrivals}
 use Rattle.rules.specs.Judge.{busyLength}
-use Rattle.rules.proofs.Agree.{Agree}
+use Rattle.rules.specs.Ready.{Agree}
 use Rattle.starts.specs.Sheet.{mostFlows, mostNodes, values}
 use Rattle.sheets.specs.Fields.{flowAt, DraftIs}
 
