@@ -19,7 +19,7 @@
 extern "C" {
 #endif
 
-/* Bytes of stack for a thread that calls: room for a call, and 64 KiB for what else the thread does. */
+/* Bytes of stack for a thread that calls: room for a call, and at least 64 KiB for what else the thread does. */
 #define KEZHUVANAM_STACK (512 * 1024)
 
 /* 0 if the plan is accepted. Otherwise why not:

@@ -19,7 +19,7 @@ struct Turn {
     table: Table,
 }
 
-// Of an unknown call, or one that the input's end cuts short.
+// Of an unknown call, one that the input's end cuts short, or a buffer of more than LENT bytes.
 fn stop(t: Table) -> Turn {
     show::put(b"bad call\n");
     Turn {
@@ -115,7 +115,7 @@ fn print_bytes(bytes: &[u8], n: usize) {
     show::put(b"\n");
 }
 
-// Goes on with the table of the plan in the first n bytes.
+// Prints the first n bytes, and goes on with the table of the plan in them.
 fn read_table(bytes: &[u8], n: usize) -> Turn
     requires { ⌜ n ≤ length (now bytes) ⌝ }
 {

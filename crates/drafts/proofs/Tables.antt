@@ -1,4 +1,4 @@
--- Filling an array with the values of a function. Assumes nothing.
+-- Filling an array with the values of a function, and the arrays of a draft with its cells. Assumes nothing.
 use mathlib.Core.Path.{_≡_, refl, ap, sym, _∙_}
 use mathlib.Core.Logic.{inl, inr}
 use mathlib.Core.List.{List}

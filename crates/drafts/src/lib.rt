@@ -224,7 +224,7 @@ pub struct Draft {
     pub n: usize,
 }
 
-// The second clause is what settling asks.
+// The second clause is what the outcome of settling hangs on; those after it are sizes.
 pub fn prepare(row: Row, lmin: u16, lmax: u16) -> Draft
     ensures { λ r. ⌜ DraftOf (netOf lmin lmax row) r ⌝ }
     ensures { λ r. ⌜ (Valid (netOf lmin lmax row) → Setup (netOf lmin lmax row) (r .nums) (r .from) (r .also) (r .lengths) (r .busies) (r .reads) (r .n)) ⌝ }

@@ -1,4 +1,4 @@
--- The way out of each function. Assumes nothing.
+-- The ways out of `refuse` and `judge_figures`. Assumes nothing.
 use mathlib.Core.Path.{_≡_, refl, ap, _∙_}
 use mathlib.Core.List.{List}
 use Prim.Native.Nat.{ℕ, _≤_, _<_}

@@ -47,7 +47,7 @@ fn refuse(cause: Cause) -> Verdict
     }
 }
 
-// The first flow that breaks the crossing assumption; as many as there are if none does.
+// The first flow at whose path the crossing assumption is broken; as many as there are if at none.
 fn first_misplaced(row: Row) -> usize
     ensures { λ r. ⌜ ((lmin lmax : ℕ) → FirstIs (λ k. misplaced (netOf lmin lmax row) (flowAt (netOf lmin lmax row) k)) (length (held row)) r) ⌝ }
 {

@@ -8,7 +8,7 @@ use lib.ListN.{length, getD, drop, drop-of-length-le}
 use lib.Seq.{drop-cons}
 use Rattle.flows.specs.Tests.{every, distinct, newTo}
 
--- e is the whole test, x the element at place k
+-- e is the whole test
 module _ {A : Type 0} (p : A → Bool) (l : List A) (k : ℕ) (d : A) (e : Bool) (inv : every p (drop k l) ≡ e) where
   pub every-more : k < length l → p (getD l k d) ≡ true → every p (drop (k + 1) l) ≡ e
   unfolding every

@@ -103,7 +103,7 @@ module _ (n c : ℕ) where
   unfolding hopZero
   none-hop h g = join (eqb n 0) (eqb c 0) (eq-eqb n 0 h) (eq-eqb c 0 g)
 
--- ---- refusals 3 and 4
+-- ---- refusals 2 to 4
 module _ (f : Flow) (t : Typed f) where
   abbrev all : List net.Hop
   all = hopsOf (f .nodes) (f .costs)

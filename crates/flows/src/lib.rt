@@ -74,7 +74,7 @@ pub struct Refusal {
     pub place: usize,
 }
 
-// The new table, or why not, the place in the plan, and the old table.
+// The new table; or why not, the place in the plan, and the table that goes with a refusal: the old one, or one without flows.
 pub struct Answer {
     pub cause: Cause,
     pub place: usize,
@@ -172,7 +172,7 @@ pub fn delay_cause(lmin: u16, lmax: u16) -> Cause
     Cause::Accepted
 }
 
-// The nodes of the path: at most as many as there are places.
+// How many nodes the path has: at most as many as there are places.
 pub fn path_end(f: Flow) -> usize
     ensures { λ r. ⌜ r ≡ length (pathOf f) ⌝ }
     ensures { λ r. ⌜ r ≤ mostNodes ⌝ }

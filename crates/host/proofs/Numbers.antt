@@ -1,4 +1,4 @@
--- Places that fit, and flow numbers past 255. Assumes nothing.
+-- Places that fit, flow numbers past 255, and a law for each way out. Assumes nothing.
 use Prim.Native.Nat.{ℕ, _≤_, _<_}
 use mathlib.Core.Path.{_≡_, refl, sym, ap, _∙_, subst}
 use mathlib.Core.Bool.{Bool, true, false, cond}

@@ -29,7 +29,7 @@ pub count-out : (a b t : ℕ) → a < b → count a b t ≡ 0
 unfolding count
 count-out a b t h = rw (lt-leb b a h)
 
--- What count is: n lies below it exactly if b + n × T ≤ a. Every law below rests on the two contrapositives.
+-- What count is: n lies below it exactly if b + n × T ≤ a. What compares counts below rests on the two contrapositives.
 count-gt : (a b t n : ℕ) → 0 < t → n < count a b t → b + n * t ≤ a
 count-gt a b t n p h = elim (le-or-lt b a) [
   | inl q ↦ omega (arith, le-div-iff-mul-le {k = t} {x = n} {y = a - b} p .0 (omega (arith, count-in a b t q)))
@@ -68,7 +68,7 @@ ceil-mono {a} {b} t p h = ceil-le a t (ceil b t) p (le-trans h (le-ceil b t (cei
 pub ceil-pos : (b t : ℕ) → 0 < t → 0 < b → 0 < ceil b t
 ceil-pos b t p q = elim (le-or-lt (ceil b t) 0) [ inl r ↦ omega (arith, le-ceil b t 0 p r) | inr r ↦ r ]
 
--- rises with a; falls with b and with the period
+-- rises with a
 pub count-mono : {a a′ : ℕ} (b t : ℕ) → 0 < t → a ≤ a′ → count a b t ≤ count a′ b t
 count-mono {a} {a′} b t p h = count-le a b t (count a′ b t) p (omega (arith, le-count a′ b t (count a′ b t) p (le-refl _)))
 
@@ -91,7 +91,7 @@ count-grows a b a′ b′ c t p h =
     count-le a b t (count a′ b′ t + ceil c t) p
     (omega (arith, le-count a′ b′ t (count a′ b′ t) p (le-refl _), le-ceil c t (ceil c t) p (le-refl _)))
 
--- at least one packet in a span that is not negative, at most one a tick and one
+-- at least one packet in a span that is not negative
 pub count-some : (a b t : ℕ) → 0 < t → b ≤ a → 0 < count a b t
 count-some a b t p h = omega (arith, count-in a b t h)
 

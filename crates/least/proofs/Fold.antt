@@ -1,4 +1,4 @@
--- Laws of sums, greatest and least values over a list. Hypotheses speak of the list's members alone. Assumes nothing.
+-- Laws of sums, greatest and least values over a list. Hypotheses speak of the list's members alone, but that of any-ext. Assumes nothing.
 use mathlib.Core.Path.{_≡_, refl, _∙_, sym, ap, ap₂}
 use mathlib.Core.Bool.{Bool, true, false}
 use mathlib.Core.Logic.{inl, inr}

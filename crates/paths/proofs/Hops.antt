@@ -1,4 +1,4 @@
--- The node and the cost at a place, and the loops that look for a node.
+-- The node and the cost at a place, a path that is cut, and the loops that look for a node and sum what is before it.
 use mathlib.Core.Path.{_≡_, refl, sym, ap, _∙_}
 use mathlib.Core.Bool.{Bool, true, false}
 use mathlib.Core.List.{List, [], _∷_}

@@ -63,7 +63,7 @@ flows-inside (suc room) lmin lmax most fs b at h g =
     record-inside b most (suc room) lmin lmax fs at h (omega arith)
     (λ i. flows-inside room lmin lmax most (fs ++ (flowAt b at ∷ [])) b (at + flowRecord) i (omega arith))
 
--- So the place fits two bytes, and where no kind byte is left it is the plan's length
+-- So the place fits two bytes, and is never past the plan's end
 pub place-inside : (b : List ℕ) → (readPlan b .place ≤ length b) × (readPlan b .place ≤ planLength mostFlows)
 place-inside b =
     found b 0 (kindAt b 0) refl

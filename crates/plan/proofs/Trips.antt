@@ -322,7 +322,7 @@ module _ (b : List ℕ) where
       (λ w g. links-found (readPlan b) u w (plan-at-links b g) h)
       (λ w g. absurd (refused-no _ Malformed 0 (plan-at-flow b g) refl h))
 
--- ---- a set that a plan can list is a valid set of the rules, and each of its flows well formed
+-- ---- a set that a plan can list is a valid set of the rules
 pub readable-valid : (lmin lmax : ℕ) (fs : List Flow) → Readable lmin lmax fs → Valid (netOf lmin lmax (rowOf fs))
 readable-valid lmin lmax fs s = row-valid lmin lmax fs (delays-formed lmin lmax (s .delays) .0) (s .rising) (s .flows) (s .typed)
 

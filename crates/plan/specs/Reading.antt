@@ -74,7 +74,7 @@ abbrev readRecord : ℕ → ℕ → List Flow → List ℕ → ℕ → Reading �
 readRecord lmin lmax fs b at next =
     ifFlow (kindAt b at) (unless (recordCause fs (flowAt b at)) at next) (readEnd lmin lmax (rowOf fs) b at)
 
--- the records from a place on, after the flows fs, with room for so many more; where there is none, recordCause has given 6
+-- the records from a place on, after the flows fs, with room for so many more; where there is none, recordCause accepts no flow
 unfoldable pub readFlows : ℕ → ℕ → ℕ → List Flow → List ℕ → ℕ → Reading
 readFlows zero lmin lmax fs b at = readRecord lmin lmax fs b at (refused Full at)
 readFlows (suc room) lmin lmax fs b at =

@@ -16,7 +16,7 @@ use Rattle.table.specs.Calls.{answered}
 use Rattle.table.specs.Demands.{Present, Sound}
 use Rattle.plans.specs.Plans.{planAnswer}
 
--- the bytes of a table
+-- how many bytes the plan of a table has
 abbrev pub size : Table → ℕ
 size t = 6 + 34 * length (held (t .row))
 

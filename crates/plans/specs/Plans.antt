@@ -42,6 +42,6 @@ answerTo r = cond (acceptedBy (r .cause)) (setAnswer (r .lmin) (r .lmax) (r .row
 unfoldable pub planAnswer : List ℕ → Answer
 planAnswer b = answerTo (readPlan b)
 
--- the bytes of a table
+-- the bytes of a table's plan
 abbrev pub tableBytes : Table → List ℕ
 tableBytes t = planBytes (t .lmin) (t .lmax) (held (t .row))

@@ -1,4 +1,4 @@
--- What the list of a row says of its array, and the searches through it.
+-- What the list of a row says of its array; a flow put at its end, the searches through it, the last number, the ways out of refusals 2 to 6.
 use Prim.Native.Nat.{ℕ, zero, suc, _+_, _-_, _≤_, _<_}
 use mathlib.Core.Path.{_≡_, refl, sym, ap, _∙_}
 use mathlib.Core.Bool.{Bool, true, false, cond, not}

@@ -1,4 +1,4 @@
--- Find, insert and remove, said of the list of flows that a row holds.
+-- Find, insert, remove, refusals 2 to 6 as tests, rising numbers: said of the list of flows that a row holds. Append is said of its array.
 use Prim.Native.Nat.{ℕ, suc, _+_, _-_, _<_}
 use mathlib.Core.Bool.{Bool, cond}
 use mathlib.Core.List.{List, [], _∷_}

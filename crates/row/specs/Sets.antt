@@ -1,4 +1,4 @@
--- The sets that a plan can list and a table can hold, what lets a flow into one, and which of refusals 2 to 6 is given, exactly when.
+-- The sets that a plan can list, among them every set that a table holds; what lets a flow into one, and which of refusals 2 to 6 is given, exactly when.
 use Prim.Native.Nat.{ℕ, _<_, _≤_}
 use mathlib.Core.Path.{_≡_}
 use mathlib.Core.List.{List}

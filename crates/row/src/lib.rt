@@ -72,7 +72,7 @@ fn copy(start: Row, row: Row, a: usize, b: usize) -> Row
     to
 }
 
-// The flows before the first of that number.
+// How many flows stand before the first of that number.
 fn place(row: Row, number: u8) -> usize
     ensures { λ r. ⌜ r ≤ length (held row) ⌝ }
     ensures { λ r. ⌜ r ≡ placeOf number (held row) ⌝ }
@@ -89,7 +89,7 @@ fn place(row: Row, number: u8) -> usize
     k
 }
 
-// The flows before the first of a greater number.
+// How many flows stand before the first of a greater number.
 fn rank(row: Row, number: u8) -> usize
     ensures { λ r. ⌜ r ≤ length (held row) ⌝ }
     ensures { λ r. ⌜ r ≡ rankOf number (held row) ⌝ }

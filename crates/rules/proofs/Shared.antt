@@ -1,4 +1,4 @@
--- The nodes that a flow shares with i's path stand for its whole path: nothing in the formula tells them apart. Assumes nothing.
+-- The nodes that a flow shares with i's path stand for its whole path: what the formula reads of them is what it would read of the path. Assumes nothing.
 use mathlib.Core.Path.{_≡_, refl, _∙_, sym, ap, ap₂}
 use mathlib.Core.Bool.{Bool, true, false}
 use mathlib.Core.List.{List, [], _∷_, List·Memᴰ, List·Memᴰ·head, List·Memᴰ·tail}
@@ -77,7 +77,7 @@ last-on-shared I (k ∷ a) l d h =
     ap (λ b. lastOn (pick b (k .node) d) a (shared I l)) (visits-shared I (k .node) (h k (List·Memᴰ·head refl)) l)
     ∙ last-on-shared I a l (pick (visits l (k .node)) (k .node) d) (λ m q. h m (List·Memᴰ·tail q))
 
--- a flow that does not cross adds nothing
+-- the slowest cost of a flow that does not cross is 0
 pub uncrossed-nothing : (P l : List Hop) → crosses P l ≡ false → slowest P l ≡ 0
 unfolding crosses slowest
 uncrossed-nothing P l e = omega (arith, max-under (only (λ k. visits P (k .node)) (λ k. k .cost)) l 0 (λ k m. go k m (visits P (k .node)) refl))

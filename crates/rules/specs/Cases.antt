@@ -1,4 +1,4 @@
--- The cases with *, and sets that tell readings apart, as two lists of rows: the judgement of each row's set is the expected one. RULES, cases.
+-- The cases with *, sets that tell readings apart, and crossing paths, as lists of rows: the judgement of each row's set is the expected one. RULES, cases.
 use mathlib.Core.Path.{_≡_, refl}
 use mathlib.Core.List.{List, [], _∷_}
 use Prim.Native.Nat.{ℕ}

@@ -54,7 +54,7 @@ total c = sumOf (λ q. sumOf (λ r. r) (q .responses)) c
 unfoldable pub still : List Reply → List Reply → Bool
 still c d = pick (pastHorizon c) true (leb (total d) (total c))
 
--- Rounds from zero until they are still. Each other round adds to a total of at most nodes × H, so there are enough: proofs/Judge.
+-- Rounds from zero until they are still. Each other round adds to a total of at most nodes × H, so there are enough: proofs/Rounds.
 unfoldable pub rounds : Net → ℕ
 rounds N = suc (sumOf (λ i. length (i .path) * horizon) (N .flows))
 
@@ -66,7 +66,7 @@ figures N S i =
     let b = response N i S (lastNode (i .path)) in
     record { bound = b; jitter = jitterOf N i b; busy = busyLength N i }
 
--- left, and met again: the path l against P, before it meets P, and after
+-- left, and met again: the path l against P, once it has met P, and from its beginning
 unfoldable pub meetsAgain : List Hop → List Hop → Bool
 meetsAgain P [] = false
 meetsAgain P (k ∷ l) = pick (visits P (k .node)) (meetsAgain P l) (anyOf (λ m. visits P (m .node)) l)

@@ -1,4 +1,4 @@
--- What a plan lists: flows on paths, and link delays.
+-- What a plan lists: flows on paths, and link delays. What is said of it: figures, a judgement.
 use mathlib.Core.List.{List}
 use Prim.Native.Nat.{ℕ}
 

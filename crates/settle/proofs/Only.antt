@@ -1,4 +1,4 @@
--- Any two outcomes that the contract of `settle` allows are equal. Assumes nothing.
+-- Any two outcomes that the contract of `settle` allows are equal, for a draft that is set up. Assumes nothing.
 use mathlib.Core.Path.{_≡_, refl, sym, _∙_, subst}
 use mathlib.Core.Bool.{Bool, true, false}
 use mathlib.Core.Logic.{inl, inr}

@@ -1,4 +1,4 @@
--- The loops of a turn: a law for the start, for each turn and for the end. Assumes nothing.
+-- The loops that choose, mark and raise: a law for the start, for each turn and for the end. Assumes nothing.
 use mathlib.Core.Path.{_≡_, refl, _∙_, subst}
 use mathlib.Core.Bool.{Bool, true, false}
 use mathlib.Core.Logic.{_⊎_, inl, inr}

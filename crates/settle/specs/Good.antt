@@ -24,7 +24,7 @@ held replies b k = values replies (b * mostNodes + k)
 abbrev pub due : Net → List ℕ → ℕ → ℕ → ℕ
 due N replies b k = response N (flowAt N b) (arrivalsIn N replies) (nodeAt (flowAt N b) k)
 
--- none above what it would be, all below every settled set, and each flow without a mark up to date
+-- none above what it would be, none of the arrival bounds above a settled one, and each flow without a mark up to date
 pub record Good (N : Net) (replies marks : List ℕ) : Type 0 where
   pub up : (b k : ℕ) → b < length (N .flows) → k < length (flowAt N b .path) → held replies b k ≤ due N replies b k
   pub under : Underᵛ (next N) (arrivalsIn N replies)

@@ -1,4 +1,4 @@
--- A sheet's sums are the rules' sums. Assumes nothing.
+-- The entries of a sheet at a node add up to the rules' terms 1 and 2, and i's packets after its first. Assumes nothing.
 use mathlib.Core.Path.{_≡_, refl, sym, ap, ap₂, _∙_, subst}
 use mathlib.Core.Bool.{Bool, true, false}
 use mathlib.Core.Logic.{_⊎_, inl, inr}

@@ -24,7 +24,7 @@ pub fn print_flow(number: u8, g: Figures) {
     put(b"\n");
 }
 
-// The header, and its line for each flow. RULES, programs.
+// The header, and a line for each flow. RULES, programs.
 pub fn print_table(t: Table) {
     put(b"flow bound jitter busy\n");
     let row = t.row;

@@ -6,7 +6,7 @@ use Rattle.starts.specs.Sheet.{mostTime, added, sums}
 use Rattle.starts.specs.declared.Begin.{Begin}
 use Rattle.starts.specs.declared.Begin.the-variants.{At, Past}
 
--- the least w equal to its sum, or that each such w has a response bound W + C − t past the horizon
+-- the least w equal to its sum, or that each w which its sum does not exceed has a response bound W + C − t past the horizon
 abbrev pub BeginIs : List ℕ → ℕ → ℕ → ℕ → (ℕ → ℕ) → Begin → Type 0
 BeginIs e n u p x (At w) = Least (sums e n u p x) w
 BeginIs e n u p x Past = (w : ℕ) → sums e n u p x w ≤ w → mostTime + u < w + added e p

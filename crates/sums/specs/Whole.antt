@@ -1,4 +1,4 @@
--- The net of a row, and what the formula takes of each of its flows, read of whole paths. The rules read the nodes shared with i's path:
+-- What the formula takes of each flow of a row, read of whole paths. The rules read the nodes shared with i's path:
 -- proofs/Shared shows that it is the same.
 use Prim.Native.Nat.{ℕ, _-_, _+_, max}
 use mathlib.Core.Bool.{Bool}

@@ -1,4 +1,4 @@
--- Which refusal an admission gets: each from 2 to 10 exactly when the rules say so, and 8, 9 or 10 exactly if the enlarged set is unfit. Assumes nothing.
+-- Which refusal an admission gets: each from 2 to 10 exactly when the rules say so; past 2 to 7, one exactly if the enlarged set is unfit. Assumes nothing.
 use Prim.Native.Nat.{ℕ, _≤_}
 use mathlib.Core.Path.{_≡_, refl, sym, ap, _∙_, subst}
 use mathlib.Core.Bool.{Bool, true, false}

@@ -1,4 +1,4 @@
--- A table is determined by its network and its set of flows, and any accepted set is a table that calls make. Assumes nothing.
+-- A table is determined by its network and its set of flows; a flow withdrawn can be admitted again; any accepted set is a table that calls make. Assumes nothing.
 use Prim.Native.Nat.{ℕ, zero, suc, _≤_, _<_}
 use mathlib.Core.Path.{_≡_, refl, sym, ap, _∙_, subst}
 use mathlib.Core.Bool.{Bool, true, false, cond}

@@ -15,7 +15,7 @@ pub fn ceil(x: i64, t: i64) -> i64 {
     -floor(-x, t)
 }
 
-/// How many of 0, t, 2 t, ... are at most x. RULES, starting time.
+/// How many of 0, t, 2 t, ... are at most x. RULES, times and counts.
 pub fn count(x: i64, t: i64) -> i64 {
     (1 + floor(x, t)).max(0)
 }

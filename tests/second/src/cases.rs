@@ -252,7 +252,7 @@ fn case_14(out: &mut Findings) {
     out.same("case 14, table", table, admitted([first].iter()));
 }
 
-/// Likely mistakes. RULES, cases.
+/// Likely mistakes. RULES, errors.
 pub fn errors(out: &mut Findings) {
     let bound = |flows: &[Flow], i: usize| judge_set(&set(flows)).map(|f| f[i].bound);
     out.unlike("trying only t = -J", bound(&case_6(), 0), Ok(11));

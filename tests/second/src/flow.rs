@@ -6,7 +6,7 @@ pub const NODES: usize = 8;
 pub const HORIZON: i64 = 65_535;
 /// Greatest cost and greatest link delay.
 pub const SMALL: i64 = 4_095;
-/// Flows of a full table. RULES, tables.
+/// Flows of a full table. RULES, ranges.
 pub const FLOWS: usize = 16;
 /// Body of a kind 02 record.
 pub const BODY: usize = 33;

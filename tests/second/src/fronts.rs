@@ -99,7 +99,7 @@ fn costs_along<'a>(
 }
 
 /// M(i,h): at each node before h the shortest link and the cheapest such packet,
-/// the prefix being the whole path. RULES, starting time.
+/// the prefix being the whole path. RULES, times and counts.
 fn least_progress(set: &Set, i: usize, place: usize) -> i64 {
     let path = &set.flows[i].path;
     let least = |k: i64| costs_along(set, i, path, k).min().unwrap_or(0);

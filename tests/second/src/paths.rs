@@ -13,18 +13,18 @@ pub fn last_on(walker: &[i64], ground: &[i64]) -> Option<i64> {
     walker.iter().rev().copied().find(|n| ground.contains(n))
 }
 
-/// j and the prefix have a node in common. RULES, starting time.
+/// j and the prefix have a node in common. RULES, paths.
 pub fn crosses(j: &Flow, prefix: &[i64]) -> bool {
     first_on(&j.path, prefix).is_some()
 }
 
 /// i and j come upon their common nodes of the prefix at the same one. RULES,
-/// starting time.
+/// paths.
 pub fn runs_along(j: &Flow, prefix: &[i64]) -> bool {
     crosses(j, prefix) && first_on(&j.path, prefix) == first_on(prefix, &j.path)
 }
 
-/// The most that j costs at any node of the prefix (RULES, starting time);
+/// The most that j costs at any node of the prefix (RULES, paths);
 /// zero if j does not cross it.
 pub fn slowest_cost(j: &Flow, prefix: &[i64]) -> i64 {
     prefix
@@ -35,7 +35,7 @@ pub fn slowest_cost(j: &Flow, prefix: &[i64]) -> i64 {
 }
 
 /// Where i first has its slowest cost on the prefix of the given length. RULES,
-/// starting time.
+/// paths.
 pub fn slowest_place(i: &Flow, length: usize) -> usize {
     let greatest = slowest_cost(i, &i.path[..length]);
     i.costs.iter().position(|c| *c == greatest).unwrap_or(0)

@@ -53,12 +53,12 @@ fn read_flow(plan: &[u8], at: usize, before: &[Flow]) -> Result<Flow, Refusal> {
     let body = plan.get(at + 1..at + 1 + BODY).ok_or(Refusal::at(12, at))?;
     let record = Record::from_bytes(body);
     let rising = before.last().is_none_or(|last| last.number < record.number);
-    // Number 0, which cannot rise, has a refusal of its own. RULES, the plan.
+    // Number 0, which cannot rise, has a refusal of its own. RULES, reading.
     if record.number != 0 && !rising {
         return Err(Refusal::at(12, at));
     }
     let flow = record.flow().map_err(|number| Refusal::at(number, at))?;
-    // The fields are judged before the room for them. RULES, the plan.
+    // The fields are judged before the room for them. RULES, reading.
     if before.len() == FLOWS {
         return Err(Refusal::at(6, at));
     }

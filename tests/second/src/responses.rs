@@ -36,7 +36,7 @@ struct Node {
 
 impl Node {
     fn new(i: usize, own: &Flow, place: usize, front: &Front, arrivals: &Arrivals) -> Node {
-        // S(j,f) is what A(i,j) has beside J and M. RULES, starting time.
+        // S(j,f) is what A(i,j) has beside J and M. RULES, times and counts.
         let load = |m: &Meeting, more: i64| Load {
             base: m.shift + arrivals[m.flow][m.first] + more,
             period: m.period,
@@ -87,8 +87,8 @@ impl Node {
 /// Response bounds of i at its nodes; None if one of them passes the horizon.
 ///
 /// The instants −J ≤ t < −J + B decide: over a busy length W grows by no more
-/// than B, so that no later instant gives more than an earlier one. RULES, busy
-/// length.
+/// than B, so that no later instant gives more than an earlier one. RULES,
+/// response bounds.
 pub fn responses(
     i: usize,
     own: &Flow,

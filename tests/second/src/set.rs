@@ -35,7 +35,7 @@ impl Set {
     }
 
     /// Smin(j,h): how long j takes to h if it never waits and every link is at
-    /// its shortest. RULES, starting time. The node is given by its place on
+    /// its shortest. RULES, times and counts. The node is given by its place on
     /// j's path.
     pub fn least_arrival(&self, j: usize, place: usize) -> i64 {
         self.flows[j].costs[..place]
@@ -45,7 +45,7 @@ impl Set {
     }
 
     /// What the bound has over the shortest way through the whole path. RULES,
-    /// starting time.
+    /// response bounds.
     pub fn jitter(&self, i: usize, bound: i64) -> i64 {
         let flow = &self.flows[i];
         let hops = flow.path.len() as i64 - 1;
