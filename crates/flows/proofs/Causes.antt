@@ -4,6 +4,7 @@ use mathlib.Core.Path.{_≡_, refl, sym, ap, _∙_}
 use mathlib.Core.Bool.{Bool, true, false, not, false≢true}
 use lib.Dec.{leb, eqb}
 use borrow.Author.Tests.{eq-eqb, ne-eqb, lt-ltb, le-ltb, le-leb, lt-leb, not-true, not-false}
+use Rattle.least.proofs.Count.{never-true}
 use Rattle.flows.specs.declared.Flow.{Flow}
 use Rattle.flows.specs.declared.Cause.{Cause}
 use Rattle.flows.specs.declared.Cause.the-variants.{Accepted, Delays, NumberZero, OutOfRange, NodeTwice, Present, Full, Crossing, NoBusyLength, Unsettled, PastDeadline, Absent, Malformed, ShortBuffer}
@@ -116,11 +117,7 @@ accepted-only Malformed e = absurd (false≢true e)
 accepted-only ShortBuffer e = absurd (false≢true e)
 
 pub not-accepted : (cause : Cause) → (cause ≡ Accepted → ⊥) → acceptedBy cause ≡ false
-not-accepted cause never = go (acceptedBy cause) refl
-  where
-    go : (b : Bool) → acceptedBy cause ≡ b → acceptedBy cause ≡ false
-    go true e = absurd (never (accepted-only cause e))
-    go false e = e
+not-accepted cause never = never-true (acceptedBy cause) (λ e. never (accepted-only cause e))
 
 pub refused-never : (cause : Cause) → acceptedBy cause ≡ false → cause ≡ Accepted → ⊥
 refused-never cause e h = false≢true (sym e ∙ ap acceptedBy h)

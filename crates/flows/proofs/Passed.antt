@@ -11,6 +11,7 @@ use lib.Dec.{leb, ltb, eqb}
 use borrow.Author.Tests.{eq-eqb, ne-eqb, eqb-true, eqb-false, le-leb, leb-true, ltb-true, ltb-false, not-true}
 use Rattle.rules.specs.Net as net
 use Rattle.least.specs.Fold.{anyOf}
+use Rattle.least.proofs.Count.{never-true}
 use Rattle.rules.specs.Formula.{visits}
 use Rattle.rules.specs.Valid.{Distinct, InRange}
 use Rattle.flows.specs.declared.Flow.{Flow}
@@ -216,17 +217,10 @@ module _ (f : Flow) (t : Typed f) where
   -- and that it is the only one
   flow-only : (c : Cause) → OfFlow f c → c ≡ flowCause f
   flow-only c (number-zero h) = cause-number f h
-  flow-only c (out-of-range h n) = cause-range f h (rangesFit f) refl (ap not (go (rangesFit f) refl))
-    where
-      go : (b : Bool) → rangesFit f ≡ b → rangesFit f ≡ false
-      go true e = absurd (n (ranges-in e))
-      go false e = e
+  flow-only c (out-of-range h n) = cause-range f h (rangesFit f) refl (ap not (never-true (rangesFit f) (λ e. n (ranges-in e))))
   flow-only c (node-twice h i n) =
-      cause-twice f h (rangesFit f) refl (ap not (in-ranges i)) (distinct (nodesOf f)) refl (ap not (go (distinct (nodesOf f)) refl))
-    where
-      go : (b : Bool) → distinct (nodesOf f) ≡ b → distinct (nodesOf f) ≡ false
-      go true e = absurd (n (differ-in (i .path .1) e))
-      go false e = e
+      cause-twice f h (rangesFit f) refl (ap not (in-ranges i)) (distinct (nodesOf f)) refl
+      (ap not (never-true (distinct (nodesOf f)) (λ e. n (differ-in (i .path .1) e))))
   flow-only c (well-formed w) =
       cause-accepted f (λ q. omega (arith, w .number .0)) (rangesFit f) refl (ap not (in-ranges (w .ranges))) (distinct (nodesOf f)) refl
       (ap not (in-differ (w .ranges .path .1) (w .differ)))

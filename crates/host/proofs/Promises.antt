@@ -9,6 +9,7 @@ use mir.Val.{Fits}
 use mir.Syntax.{w8}
 use Rattle.flows.specs.declared.Answer.{Answer}
 use Rattle.flows.specs.declared.Flow.{Flow}
+use Rattle.flows.specs.declared.Table.{Table}
 use Rattle.flows.specs.declared.Cause.the-variants.{Accepted}
 use Rattle.flows.specs.Refusals.{numberOf, acceptedBy, flowNamed}
 use Rattle.flows.specs.Lists.{flowOf, tableNet}
@@ -16,7 +17,7 @@ use Rattle.flows.proofs.Causes.{accepted-only, not-accepted}
 use Rattle.rules.specs.Meaning.{IsBound}
 use Rattle.records.specs.Bodies.{Bytes}
 use Rattle.table.specs.Calls.{askedFor}
-use Rattle.table.specs.Demands.{Present, Unused}
+use Rattle.table.specs.Demands.{Present, Unused, Figured}
 use Rattle.table.proofs.Figures.{made-figured}
 use Rattle.plans.specs.Plans.{planAnswer}
 use Rattle.plans.proofs.Answers.{bytes-fit}
@@ -52,22 +53,27 @@ judge-promise b a r e g s =
 
 -- ---- the bound
 module _ (b : List ℕ) (n : ℕ) (u : Bytes b) where
-  shown : (f : Flow) → Present (planAnswer b .table) f → f .number ≡ n →
-      IsBound (tableNet (planAnswer b .table)) (flowOf f) (made-figured (planAnswer b .table) (answer-made b u) .arrivals) (planBound b n)
+  abbrev t : Table
+  t = planAnswer b .table
+
+  abbrev figured : Figured t
+  figured = made-figured t (answer-made b u)
+
+  shown : (f : Flow) → Present t f → f .number ≡ n → IsBound (tableNet t) (flowOf f) (figured .arrivals) (planBound b n)
   unfolding planBound boundOf
   shown f p q =
-      let s = made-figured (planAnswer b .table) (answer-made b u) .stored f p in
-      let e : s .shown .bound ≡ planBound b n = sym (ap boundOf (s .asking)) ∙ ap (λ (k : ℕ). boundOf (askedFor (planAnswer b .table) k)) q in
-      subst (λ (k : ℕ). IsBound (tableNet (planAnswer b .table)) (flowOf f) (made-figured (planAnswer b .table) (answer-made b u) .arrivals) k) e (s .right .bound)
+      let s = figured .stored f p in
+      let e : s .shown .bound ≡ planBound b n = sym (ap boundOf (s .asking)) ∙ ap (λ (k : ℕ). boundOf (askedFor t k)) q in
+      subst (λ (k : ℕ). IsBound (tableNet t) (flowOf f) (figured .arrivals) k) e (s .right .bound)
 
   bounds : Bounds b n (planBound b n)
   bounds = record {
     zero = (
       λ z. inr (zero-lacks b n u z),
-      λ w. ⊎-elim (λ (never : planAnswer b .cause ≡ Accepted → ⊥). refused-zero b n (not-accepted (planAnswer b .cause) never)) (λ (a : Unused (planAnswer b .table) n). lacks-zero b n a) w,
+      λ w. ⊎-elim (λ (never : planAnswer b .cause ≡ Accepted → ⊥). refused-zero b n (not-accepted (planAnswer b .cause) never)) (λ (a : Unused t n). lacks-zero b n a) w,
     );
-    arrivals = made-figured (planAnswer b .table) (answer-made b u) .arrivals;
-    least = made-figured (planAnswer b .table) (answer-made b u) .least;
+    arrivals = figured .arrivals;
+    least = figured .least;
     bound = shown;
   }
 

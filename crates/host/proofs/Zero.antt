@@ -2,7 +2,7 @@
 use Prim.Native.Nat.{ℕ, _<_}
 use mathlib.Core.Path.{_≡_, refl, ap, _∙_, subst}
 use mathlib.Core.Bool.{true, false}
-use mathlib.Core.List.{List, [], _∷_, List·Memᴰ, List·Memᴰ·head, List·Memᴰ·not-nil, Memᴰ·map}
+use mathlib.Core.List.{List, [], _∷_, List·Memᴰ, List·Memᴰ·head, Memᴰ·map}
 use native.Mathlib.Omega.{arith}
 use lib.ListN.{length}
 use borrow.Author.Tests.{eq-eqb}
@@ -14,15 +14,14 @@ use Rattle.rules.proofs.Exact.{jitter-exact}
 use Rattle.flows.specs.declared.Flow.{Flow}
 use Rattle.flows.specs.declared.Table.{Table}
 use Rattle.flows.specs.Refusals.{numberOf, acceptedBy, flowNamed}
-use Rattle.flows.specs.Lists.{held, flowOf, tableNet}
+use Rattle.flows.specs.Lists.{flowOf, tableNet}
 use Rattle.flows.proofs.Causes.{accepted-only}
-use Rattle.row.proofs.Arrays.{held-rowOf}
 use Rattle.records.specs.Bodies.{Bytes}
-use Rattle.table.specs.Calls.{emptyTable, askedFor}
+use Rattle.table.specs.Calls.{askedFor}
 use Rattle.table.specs.Made.{Made}
 use Rattle.table.specs.Demands.{Present, Unused}
 use Rattle.table.proofs.Figures.{made-valid, made-figured}
-use Rattle.table.proofs.Calls.{ask-refused}
+use Rattle.table.proofs.Calls.{none-present, ask-refused}
 use Rattle.plans.specs.Plans.{planAnswer}
 use Rattle.plans.proofs.Trips.{refused-table, answer-made, accepted-place}
 use Rattle.host.specs.Host.{boundOf, planCode, planBound}
@@ -66,11 +65,7 @@ module _ (b : List ℕ) (n : ℕ) where
   lacks-zero a = ap boundOf (ask-refused (planAnswer b .table) n a)
 
   pub refused-zero : acceptedBy (planAnswer b .cause) ≡ false → planBound b n ≡ 0
-  unfolding emptyTable
-  refused-zero h = lacks-zero (λ f p q. List·Memᴰ·not-nil (subst (λ (l : List Flow). List·Memᴰ f l) none p))
-    where
-      none : held (planAnswer b .table .row) ≡ []
-      none = ap (λ (t : Table). held (t .row)) (refused-table b h) ∙ held-rowOf []
+  refused-zero h = lacks-zero (λ f p q. none-present 0 0 f (subst (λ (t : Table). Present t f) (refused-table b h) p))
 
   pub zero-lacks : Bytes b → planBound b n ≡ 0 → Unused (planAnswer b .table) n
   unfolding planBound

@@ -16,6 +16,10 @@ le-or-lt a b = go (leb a b) refl
     go true e = inl (leb-true a b e)
     go false e = inr (leb-false a b e)
 
+pub never-true : (b : Bool) → (b ≡ true → ⊥) → b ≡ false
+never-true true h = absurd (h refl)
+never-true false h = refl
+
 pub pick-le : (b : Bool) {a a′ c c′ : ℕ} → a ≤ a′ → c ≤ c′ → pick b a c ≤ pick b a′ c′
 pick-le true p q = p
 pick-le false p q = q

@@ -2,7 +2,7 @@
 use Prim.Native.Nat.{ℕ, _+_, _<_, _≤_}
 use mathlib.Core.Path.{_≡_, sym, ap, _∙_, subst}
 use mathlib.Core.Bool.{true}
-use mathlib.Core.List.{List, [], _++_, List·Memᴰ, List·Memᴰ·not-nil}
+use mathlib.Core.List.{List, _++_}
 use native.Mathlib.Omega.{arith}
 use lib.ListN.{length, getD, take, drop, length-append, length-drop}
 use lib.Seq.{take-at, drop-at}
@@ -16,7 +16,6 @@ use Rattle.flows.specs.declared.Cause.the-variants.{Accepted}
 use Rattle.flows.specs.Refusals.{acceptedBy}
 use Rattle.flows.specs.Lists.{held}
 use Rattle.flows.proofs.Causes.{not-accepted}
-use Rattle.row.proofs.Arrays.{held-rowOf}
 use Rattle.records.specs.Bodies.{Bytes}
 use Rattle.plan.specs.declared.Written.{Written}
 use Rattle.plan.specs.declared.Written.the-variants.{Length, Refused}
@@ -26,6 +25,7 @@ use Rattle.table.specs.Calls.{emptyTable}
 use Rattle.table.specs.Made.{Made}
 use Rattle.table.specs.Demands.{Present}
 use Rattle.table.proofs.Kept.{made-right}
+use Rattle.table.proofs.Calls.{none-present}
 use Rattle.table.proofs.Promises.{made-sound}
 use Rattle.plans.specs.Plans.{planAnswer, tableBytes}
 use Rattle.plans.specs.Demands.{size, WritesBack, PlanRead, PlanWritten}
@@ -113,8 +113,7 @@ module _ (b : List ℕ) (u : Bytes b) where
     none = refused-table b (not-accepted (planAnswer b .cause) never)
 
     no-flow : (f : Flow) → Present t f → ⊥
-    unfolding emptyTable
-    no-flow f p = List·Memᴰ·not-nil (subst (λ (l : List Flow). List·Memᴰ f l) (ap (λ (s : Table). held (s .row)) none ∙ held-rowOf []) p)
+    no-flow f p = none-present 0 0 f (subst (λ (s : Table). Present s f) none p)
 
   read : PlanRead b (planAnswer b)
   unfolding emptyTable

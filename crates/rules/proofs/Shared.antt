@@ -8,6 +8,7 @@ use lib.Dec.{eqb}
 use borrow.Author.Tests.{eqb-true}
 use Rattle.least.specs.Count.{pick}
 use Rattle.least.specs.Fold.{maxOf, only, anyOf, keep}
+use Rattle.least.proofs.Count.{never-true}
 use Rattle.least.proofs.Fold.{false-true, max-under, any-at}
 use Rattle.rules.specs.Net.{Hop}
 use Rattle.rules.specs.Formula.{visits, firstOn, lastOn, there, crosses, slowest}
@@ -29,11 +30,7 @@ module _ (I : List Hop) where
       go ih false e = ih ∙ sym (off k (F l) e) ∙ sym (next k l)
 
   other-node : (n : ℕ) → visits I n ≡ true → (k : Hop) → visits I (k .node) ≡ false → eqb (k .node) n ≡ false
-  other-node n o k e = go (eqb (k .node) n) refl
-    where
-      go : (b : Bool) → eqb (k .node) n ≡ b → eqb (k .node) n ≡ false
-      go true q = false-true (sym e ∙ ap (visits I) (eqb-true (k .node) n q) ∙ o)
-      go false q = q
+  other-node n o k e = never-true (eqb (k .node) n) (λ q. false-true (sym e ∙ ap (visits I) (eqb-true (k .node) n q) ∙ o))
 
   -- at a node of I
   pub visits-shared : (n : ℕ) → visits I n ≡ true → (l : List Hop) → visits (shared l) n ≡ visits l n
@@ -48,11 +45,7 @@ module _ (I : List Hop) where
   -- on a part P of I
   module _ (P : List Hop) (within : (n : ℕ) → visits P n ≡ true → visits I n ≡ true) where
     outside : (n : ℕ) → visits I n ≡ false → visits P n ≡ false
-    outside n e = go (visits P n) refl
-      where
-        go : (b : Bool) → visits P n ≡ b → visits P n ≡ false
-        go true q = false-true (sym e ∙ within n q)
-        go false q = q
+    outside n e = never-true (visits P n) (λ q. false-true (sym e ∙ within n q))
 
     pub slowest-shared : (l : List Hop) → slowest P (shared l) ≡ slowest P l
     unfolding slowest maxOf

@@ -1,8 +1,8 @@
--- What an accepted admission did, and what refusals give. Assumes nothing.
+-- What an accepted admission did, what refusals give, and that a table without flows has none. Assumes nothing.
 use Prim.Native.Nat.{ℕ, zero, suc, _<_}
-use mathlib.Core.Path.{_≡_, refl, sym, ap, _∙_}
+use mathlib.Core.Path.{_≡_, refl, sym, ap, _∙_, subst}
 use mathlib.Core.Bool.{Bool, true, false, cond}
-use mathlib.Core.List.{List, [], _∷_, List·Memᴰ, List·Memᴰ·head, List·Memᴰ·tail}
+use mathlib.Core.List.{List, [], _∷_, List·Memᴰ, List·Memᴰ·head, List·Memᴰ·tail, List·Memᴰ·not-nil}
 use mathlib.Core.Logic.{_⊎_}
 use native.Mathlib.Omega.{arith}
 use lib.ListN.{length, getD}
@@ -27,7 +27,7 @@ use Rattle.row.specs.Sets.{Enters}
 use Rattle.row.proofs.Sets.{enters, insert-has, insert-keeps, insert-only, found-flow}
 use Rattle.engine.specs.declared.Verdict.{Verdict}
 use Rattle.engine.specs.Verdicts.{causeOf, refused, given, verdictFrom}
-use Rattle.table.specs.Calls.{answered, unless, holding, decided, judgedRow, admitted, withdrawnBy, withdrawn, askedBy, askedFor}
+use Rattle.table.specs.Calls.{emptyTable, answered, unless, holding, decided, judgedRow, admitted, withdrawnBy, withdrawn, askedBy, askedFor}
 use Rattle.table.specs.Demands.{Present, enlargedNet}
 use Rattle.table.proofs.Kept.{cause-refuses, admit-decided}
 
@@ -91,6 +91,11 @@ old-table t u e v false d never = refl
 pub admit-old : (t : Table) (f : Flow) → (admitted t f .cause ≡ Accepted → ⊥) → admitted t f ≡ answered (admitted t f .cause) t
 unfolding admitted decided unless
 admit-old t f never = old-table t _ _ _ (acceptedBy (entryCause (held (t .row)) f)) (acceptedBy (judgedRow t (inserted (t .row) f) .cause)) never
+
+-- a table without flows
+pub none-present : (lmin lmax : ℕ) (f : Flow) → Present (emptyTable lmin lmax) f → ⊥
+unfolding emptyTable
+none-present lmin lmax f p = List·Memᴰ·not-nil (subst (λ (l : List Flow). List·Memᴰ f l) (held-rowOf []) p)
 
 -- A number that is not in the table is refused with 11
 member-at : (fs : List Flow) (k : ℕ) → k < length fs → List·Memᴰ (getD fs k noFlow) fs

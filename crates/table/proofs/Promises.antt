@@ -2,7 +2,6 @@
 use Prim.Native.Nat.{ℕ}
 use mathlib.Core.Path.{_≡_, refl, sym, ap, _∙_, subst}
 use mathlib.Core.Bool.{Bool, true, false, cond}
-use mathlib.Core.List.{List, [], List·Memᴰ, List·Memᴰ·not-nil}
 use mathlib.Core.Logic.{_⊎_, ⊎-elim}
 use Rattle.flows.specs.declared.Flow.{Flow}
 use Rattle.flows.specs.declared.Table.{Table}
@@ -18,11 +17,10 @@ use Rattle.flows.proofs.Passed.{delays-given}
 use Rattle.row.specs.declared.Found.{Found}
 use Rattle.row.specs.declared.Found.the-variants.{At, Nothing}
 use Rattle.row.specs.Rows.{foundIn, inserted, entryCause}
-use Rattle.row.proofs.Arrays.{held-rowOf}
 use Rattle.table.specs.Calls.{emptyTable, answered, unless, freshAnswer, holding, decided, judgedRow, admitted, withdrawnBy, withdrawn, askedFor}
 use Rattle.table.specs.Made.{Made, by-fresh, by-admit, by-withdraw}
 use Rattle.table.specs.Demands.{Present, Stored, Sound, SameLinks, Freshly, Admitting, Gone, Withdrawing, Asking}
-use Rattle.table.proofs.Calls.{admit-has, admit-keeps, admit-only, admit-old, withdraw-refused, ask-refused}
+use Rattle.table.proofs.Calls.{none-present, admit-has, admit-keeps, admit-only, admit-old, withdraw-refused, ask-refused}
 use Rattle.table.proofs.Figures.{made-figured}
 use Rattle.table.proofs.Sets.{equal-tables, withdraw-admit}
 use Rattle.table.proofs.Refusals.{refused-exactly, admission-exact}
@@ -48,9 +46,9 @@ module _ (lmin lmax : ℕ) where
   fresh-place false = refl
 
   fresh-empty : (b : Bool) (f : Flow) → Present (freshBy b .table) f → ⊥
-  unfolding answered emptyTable
-  fresh-empty true f p = List·Memᴰ·not-nil (subst (λ (l : List Flow). List·Memᴰ f l) (held-rowOf []) p)
-  fresh-empty false f p = List·Memᴰ·not-nil (subst (λ (l : List Flow). List·Memᴰ f l) (held-rowOf []) p)
+  unfolding answered
+  fresh-empty true f p = none-present lmin lmax f p
+  fresh-empty false f p = none-present 0 0 f p
 
   fresh-links : (b : Bool) → acceptedBy (delayCause lmin lmax) ≡ b → freshBy b .cause ≡ Accepted → (freshBy b .table .lmin ≡ lmin) × (freshBy b .table .lmax ≡ lmax)
   unfolding answered emptyTable
