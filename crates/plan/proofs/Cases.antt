@@ -12,7 +12,7 @@ use Rattle.flows.specs.Tests.{delayCause, every, hopFits, hopZero, rangesFit, d
 use Rattle.row.specs.Rows.{lastNumber}
 use Rattle.records.specs.Bodies.{wordsWritten, flowWritten}
 use Rattle.reader.specs.Places.{kindOf, kindAt}
-use Rattle.plan.specs.Reading.{refused, unless, fallsTo, recordCause, atEnd, ifFlow, readFlows, ifLinks, readPlan}
+use Rattle.plan.specs.Reading.{causeIn, placeIn, refused, unless, fallsTo, recordCause, atEnd, ifFlow, readFlows, ifLinks, readPlan}
 use Rattle.plan.specs.Writing.{linksBytes, flowBytes, flowsBytes, planBytes}
 
 -- one node of that number and that cost; T 20, D 60
@@ -86,7 +86,7 @@ cases =
     record { bytes = listing (many 0 16 ++ (flow 17 1 0 ∷ [])); number = 3; place = 549 } ∷ []
 
 right : Case → Bool
-right c = eqb (numberOf (readPlan (c .bytes) .cause)) (c .number) && eqb (readPlan (c .bytes) .place) (c .place)
+right c = eqb (numberOf (causeIn (readPlan (c .bytes) .outcome))) (c .number) && eqb (placeIn (readPlan (c .bytes) .outcome)) (c .place)
 
 all-right : every right cases ≡ true
 unfolding cases right listing flow twice many every planBytes flowsBytes flowWritten wordsWritten readPlan ifLinks kindAt kindOf unless refused delayCause readFlows ifFlow atEnd recordCause fallsTo lastNumber flowCause rangesFit hopFits hopZero distinct rowOf

@@ -15,13 +15,13 @@ use Rattle.flows.specs.Tests.{delayCause}
 use Rattle.records.specs.Kinds.{linksRecord, flowRecord}
 use Rattle.plan.specs.declared.Reading.{Reading}
 use Rattle.reader.specs.Places.{kindAt}
-use Rattle.plan.specs.Reading.{flowAt, linksAt, refused, listed, unless, recordCause, readFlows, readPlan}
+use Rattle.plan.specs.Reading.{placeIn, flowAt, linksAt, refused, listed, unless, recordCause, readFlows, readPlan}
 use Rattle.plan.specs.Writing.{planLength}
 use Rattle.reader.proofs.Places.{found}
 use Rattle.plan.proofs.Steps.{nextAfter, flows-at-none, flows-at-links, flows-at-end, flows-at-flow, plan-at-links, plan-at-flow, plan-at-end, plan-at-none}
 
-abbrev Inside : List ℕ → ℕ → Reading → Type 0
-Inside b most r = (r .place ≤ length b) × (r .place ≤ most)
+abbrev pub Inside : List ℕ → ℕ → Reading → Type 0
+Inside b most r = (placeIn (r .outcome) ≤ length b) × (placeIn (r .outcome) ≤ most)
 
 module _ (b : List ℕ) (most : ℕ) where
   refused-inside : (r : Reading) (cause : Cause) (place : ℕ) → place ≤ length b → place ≤ most → r ≡ refused cause place → Inside b most r
@@ -64,7 +64,7 @@ flows-inside (suc room) lmin lmax most fs b at h g =
     (λ i. flows-inside room lmin lmax most (fs ++ (flowAt b at ∷ [])) b (at + flowRecord) i (omega arith))
 
 -- So the place fits two bytes, and is never past the plan's end
-pub place-inside : (b : List ℕ) → (readPlan b .place ≤ length b) × (readPlan b .place ≤ planLength mostFlows)
+pub place-inside : (b : List ℕ) → Inside b (planLength mostFlows) (readPlan b)
 place-inside b =
     found b 0 (kindAt b 0) refl
     (λ k. refused-inside b (planLength mostFlows) _ Malformed 0 (omega arith) (omega arith) (plan-at-none b k))

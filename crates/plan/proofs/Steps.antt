@@ -21,6 +21,7 @@ use Rattle.records.specs.Bodies.{flowRead}
 use Rattle.reader.specs.declared.Kind.{Kind}
 use Rattle.reader.specs.declared.Kind.the-variants.{OfLinks, OfFlow, OfEnd, OfNone}
 use Rattle.plan.specs.declared.Reading.{Reading}
+use Rattle.plan.specs.declared.Outcome.the-variants.{Refused}
 use Rattle.reader.specs.Places.{kindAt}
 use Rattle.plan.specs.Reading.{flowAt, linksAt, refused, listed, unless, fallsTo, recordCause, atEnd, readEnd, ifFlow, readFlows, readAfterLinks, ifLinks, readPlan}
 use Rattle.row.proofs.Arrays.{held-rowOf, append-list, length-snoc}
@@ -30,7 +31,7 @@ use types.Run.{OneOf, hit, miss}
 use denote.Enum.Declared.{tagOf}
 
 pub refused-made : (cause : Cause) (place : ℕ) (row : Row) → row ≡ rowOf [] →
-    record { cause = cause; place = place; lmin = 0; lmax = 0; row = row } ≡ refused cause place
+    record { outcome = Refused cause place; set = record { lmin = 0; lmax = 0; row = row } } ≡ refused cause place
 unfolding refused
 refused-made cause place row e = rw e
 

@@ -24,9 +24,12 @@ use Rattle.records.specs.Bodies.{Bytes, flowRead, linksWritten, flowWritten}
 use Rattle.reader.specs.declared.Kind.{Kind}
 use Rattle.reader.specs.declared.Kind.the-variants.{OfLinks, OfFlow, OfEnd}
 use Rattle.plan.specs.declared.Reading.{Reading}
+use Rattle.plan.specs.declared.Outcome.{Outcome}
+use Rattle.plan.specs.declared.Outcome.the-variants.{Read, Refused}
 use Rattle.reader.specs.Places.{kindAt}
 use Rattle.plan.specs.Reading.{flowAt, linksAt, refused, listed, unless, fallsTo, recordCause, readFlows, readAfterLinks, ifLinks, readPlan}
 use Rattle.plan.specs.Writing.{linksBytes, flowBytes, flowsBytes, planBytes, planLength}
+use Rattle.plan.specs.Demands.{InForm}
 use Rattle.row.specs.Sets.{Readable}
 use Rattle.flows.proofs.Causes.{accepted-only}
 use Rattle.flows.proofs.Passed.{delays-formed, formed}
@@ -160,14 +163,17 @@ module _ (b : List ℕ) (at kind n : ℕ) (w : Whole b at kind n) where
   body-long : length (take n (drop (at + 1) b)) ≡ n
   body-long = length-take-le n (drop (at + 1) b) (omega (arith, w .room, length-drop (at + 1) b))
 
-refused-no : (r : Reading) (c : Cause) (place : ℕ) → r ≡ refused c place → acceptedBy c ≡ false → acceptedBy (r .cause) ≡ true → ⊥
+refused-no : (r : Reading) (c : Cause) (place : ℕ) → r ≡ refused c place → r .outcome ≡ Read → ⊥
 unfolding refused
-refused-no r c place e h g = false≢true (sym h ∙ ap (λ (x : Reading). acceptedBy (x .cause)) (sym e) ∙ g)
+refused-no r c place e g = false≢true (ap (λ (x : Reading). isRead (x .outcome)) (sym e) ∙ ap isRead g)
+  where
+    isRead : Outcome → Bool
+    isRead Read = true
+    isRead (Refused cause at) = false
 
--- the flows that an accepted reading found from a place on, what is known of them, and the bytes there
-record Found (lmin lmax : ℕ) (fs : List Flow) (b : List ℕ) (at : ℕ) (r : Reading) : Type 0 where
+-- the flows that a reading found from a place on, what is known of them, and the bytes there
+record Found (fs : List Flow) (b : List ℕ) (at : ℕ) : Type 0 where
   rest : List Flow
-  read : r ≡ listed lmin lmax (rowOf (fs ++ rest))
   bytes : drop at b ≡ flowsBytes rest ++ (endKind ∷ [])
   rising : Rising (lastNumber fs) rest
   count : length fs + length rest ≤ mostFlows
@@ -201,18 +207,17 @@ taken fs f t h =
 
 module _ (room lmin lmax : ℕ) (fs : List Flow) (b : List ℕ) (at : ℕ) (u : Bytes b) (few : length fs ≤ mostFlows) where
   end-found : (r : Reading) → Whole b at endKind 0 → r ≡ cond (ltb (at + 1) (length b)) (refused Malformed (at + 1)) (listed lmin lmax (rowOf fs)) →
-      acceptedBy (r .cause) ≡ true → Found lmin lmax fs b at r
+      r .outcome ≡ Read → Found fs b at
   unfolding flowsBytes
   end-found r w e h = go (ltb (at + 1) (length b)) refl e
     where
-      go : (t : Bool) → ltb (at + 1) (length b) ≡ t → r ≡ cond t (refused Malformed (at + 1)) (listed lmin lmax (rowOf fs)) → Found lmin lmax fs b at r
-      go true i g = absurd (refused-no r Malformed (at + 1) g refl h)
+      go : (t : Bool) → ltb (at + 1) (length b) ≡ t → r ≡ cond t (refused Malformed (at + 1)) (listed lmin lmax (rowOf fs)) → Found fs b at
+      go true i g = absurd (refused-no r Malformed (at + 1) g h)
       go false i g =
           let n : length b ≤ at + 1 = ltb-false (at + 1) (length b) i in
           let z : drop (at + (1 + 0)) b ≡ [] = drop-of-length-le b {i = at + (1 + 0)} (omega arith) in
           record {
             rest = [];
-            read = g ∙ ap (λ (l : List Flow). listed lmin lmax (rowOf l)) (sym (append-nil fs));
             bytes = record-split b at endKind 0 w ∙ ap (λ (l : List ℕ). endKind ∷ l) z;
             rising = rising-none;
             count = omega arith;
@@ -221,16 +226,16 @@ module _ (room lmin lmax : ℕ) (fs : List Flow) (b : List ℕ) (at : ℕ) (u : 
           }
 
   flow-found : (r : Reading) → Whole b at flowKind flowBody →
-      r ≡ unless (recordCause fs (flowAt b at)) at (nextAfter room lmin lmax fs b at) → acceptedBy (r .cause) ≡ true →
-      (length (fs ++ (flowAt b at ∷ [])) ≤ mostFlows → acceptedBy (nextAfter room lmin lmax fs b at .cause) ≡ true →
-      Found lmin lmax (fs ++ (flowAt b at ∷ [])) b (at + flowRecord) (nextAfter room lmin lmax fs b at)) →
-      Found lmin lmax fs b at r
+      r ≡ unless (recordCause fs (flowAt b at)) at (nextAfter room lmin lmax fs b at) → r .outcome ≡ Read →
+      (length (fs ++ (flowAt b at ∷ [])) ≤ mostFlows → nextAfter room lmin lmax fs b at .outcome ≡ Read →
+      Found (fs ++ (flowAt b at ∷ [])) b (at + flowRecord)) →
+      Found fs b at
   unfolding unless flowsBytes
   flow-found r w e h ih = go (acceptedBy (recordCause fs (flowAt b at))) refl e
     where
       go : (t : Bool) → acceptedBy (recordCause fs (flowAt b at)) ≡ t →
-          r ≡ cond t (nextAfter room lmin lmax fs b at) (refused (recordCause fs (flowAt b at)) at) → Found lmin lmax fs b at r
-      go false i g = absurd (refused-no r (recordCause fs (flowAt b at)) at g i h)
+          r ≡ cond t (nextAfter room lmin lmax fs b at) (refused (recordCause fs (flowAt b at)) at) → Found fs b at
+      go false i g = absurd (refused-no r (recordCause fs (flowAt b at)) at g h)
       go true i g =
           let f = flowAt b at in
           let part : Bytes (take flowBody (drop (at + 1) b)) = bytes-take flowBody (drop (at + 1) b) (bytes-drop (at + 1) b u) in
@@ -241,7 +246,6 @@ module _ (room lmin lmax : ℕ) (fs : List Flow) (b : List ℕ) (at : ℕ) (u : 
           let n = ih (omega (arith, k .room, length-snoc fs f)) (rw g at h) in
           record {
             rest = f ∷ n .rest;
-            read = g ∙ n .read ∙ ap (λ (l : List Flow). listed lmin lmax (rowOf l)) (append-snoc fs f (n .rest));
             bytes =
                 record-split b at flowKind flowBody w ∙ ap (λ (l : List ℕ). flowKind ∷ (l ++ drop (at + flowRecord) b)) (sym y) ∙
                 ap (λ (l : List ℕ). flowBytes f ++ l) (n .bytes) ∙ sym (append-assoc (flowBytes f) (flowsBytes (n .rest)) (endKind ∷ []));
@@ -251,37 +255,28 @@ module _ (room lmin lmax : ℕ) (fs : List Flow) (b : List ℕ) (at : ℕ) (u : 
             typed = each-more ty (n .typed);
           }
 
-  record-found : acceptedBy (readFlows room lmin lmax fs b at .cause) ≡ true →
-      (length (fs ++ (flowAt b at ∷ [])) ≤ mostFlows → acceptedBy (nextAfter room lmin lmax fs b at .cause) ≡ true →
-      Found lmin lmax (fs ++ (flowAt b at ∷ [])) b (at + flowRecord) (nextAfter room lmin lmax fs b at)) →
-      Found lmin lmax fs b at (readFlows room lmin lmax fs b at)
+  record-found : readFlows room lmin lmax fs b at .outcome ≡ Read →
+      (length (fs ++ (flowAt b at ∷ [])) ≤ mostFlows → nextAfter room lmin lmax fs b at .outcome ≡ Read →
+      Found (fs ++ (flowAt b at ∷ [])) b (at + flowRecord)) →
+      Found fs b at
   record-found h ih =
       found b at (kindAt b at) refl
-      (λ g. absurd (refused-no _ Malformed at (flows-at-none room lmin lmax fs b at g) refl h))
+      (λ g. absurd (refused-no _ Malformed at (flows-at-none room lmin lmax fs b at g) h))
       (λ w g. end-found (readFlows room lmin lmax fs b at) w (flows-at-end room lmin lmax fs b at g) h)
-      (λ w g. absurd (refused-no _ Malformed at (flows-at-links room lmin lmax fs b at g) refl h))
+      (λ w g. absurd (refused-no _ Malformed at (flows-at-links room lmin lmax fs b at g) h))
       (λ w g. flow-found (readFlows room lmin lmax fs b at) w (flows-at-flow room lmin lmax fs b at g) h ih)
 
-flows-found : (room lmin lmax : ℕ) (fs : List Flow) (b : List ℕ) (at : ℕ) → Bytes b → length fs ≤ mostFlows → acceptedBy (readFlows room lmin lmax fs b at .cause) ≡ true →
-    Found lmin lmax fs b at (readFlows room lmin lmax fs b at)
+flows-found : (room lmin lmax : ℕ) (fs : List Flow) (b : List ℕ) (at : ℕ) → Bytes b → length fs ≤ mostFlows → readFlows room lmin lmax fs b at .outcome ≡ Read →
+    Found fs b at
 unfolding nextAfter
-flows-found zero lmin lmax fs b at u few h = record-found zero lmin lmax fs b at u few h (λ m g. absurd (refused-no _ Full at refl refl g))
+flows-found zero lmin lmax fs b at u few h = record-found zero lmin lmax fs b at u few h (λ m g. absurd (refused-no _ Full at refl g))
 flows-found (suc room) lmin lmax fs b at u few h =
     record-found (suc room) lmin lmax fs b at u few h (λ m g. flows-found room lmin lmax (fs ++ (flowAt b at ∷ [])) b (at + flowRecord) u m g)
-
--- the set that an accepted plan lists, and its bytes
-pub record Lists (b : List ℕ) (r : Reading) : Type 0 where
-  pub lmin : ℕ
-  pub lmax : ℕ
-  pub flows : List Flow
-  pub read : r ≡ listed lmin lmax (rowOf flows)
-  pub bytes : b ≡ planBytes lmin lmax flows
-  pub readable : Readable lmin lmax flows
 
 module _ (b : List ℕ) where
   links-found : (r : Reading) → Bytes b → Whole b 0 linksKind linksBody →
       r ≡ unless (delayCause (linksAt b 0 .lmin) (linksAt b 0 .lmax)) 0 (readAfterLinks (linksAt b 0 .lmin) (linksAt b 0 .lmax) b) →
-      acceptedBy (r .cause) ≡ true → Lists b r
+      r .outcome ≡ Read → InForm b
   unfolding unless planBytes lastNumber
   links-found r u w e h = go (acceptedBy (delayCause l m)) refl e
     where
@@ -291,8 +286,8 @@ module _ (b : List ℕ) where
       m : ℕ
       m = linksAt b 0 .lmax
 
-      go : (t : Bool) → acceptedBy (delayCause l m) ≡ t → r ≡ cond t (readAfterLinks l m b) (refused (delayCause l m) 0) → Lists b r
-      go false i g = absurd (refused-no r (delayCause l m) 0 g i h)
+      go : (t : Bool) → acceptedBy (delayCause l m) ≡ t → r ≡ cond t (readAfterLinks l m b) (refused (delayCause l m) 0) → InForm b
+      go false i g = absurd (refused-no r (delayCause l m) 0 g h)
       go true i g =
           let n = flows-found mostFlows l m [] b linksRecord u (omega arith) (rw g at h) in
           let y : linksWritten l m ≡ take linksBody (drop 1 b) =
@@ -301,7 +296,6 @@ module _ (b : List ℕ) where
             lmin = l;
             lmax = m;
             flows = n .rest;
-            read = g ∙ n .read;
             bytes =
                 record-split b 0 linksKind linksBody w ∙ ap (λ (x : List ℕ). linksKind ∷ (x ++ drop linksRecord b)) (sym y) ∙
                 ap (λ (x : List ℕ). linksBytes l m ++ x) (n .bytes) ∙ sym (append-assoc (linksBytes l m) (flowsBytes (n .rest)) (endKind ∷ []));
@@ -314,13 +308,18 @@ module _ (b : List ℕ) where
             };
           }
 
-  pub plan-lists : Bytes b → acceptedBy (readPlan b .cause) ≡ true → Lists b (readPlan b)
-  plan-lists u h =
+  -- What is read is in form
+  pub plan-form : Bytes b → readPlan b .outcome ≡ Read → InForm b
+  plan-form u h =
       found b 0 (kindAt b 0) refl
-      (λ g. absurd (refused-no _ Malformed 0 (plan-at-none b g) refl h))
-      (λ w g. absurd (refused-no _ Malformed 0 (plan-at-end b g) refl h))
+      (λ g. absurd (refused-no _ Malformed 0 (plan-at-none b g) h))
+      (λ w g. absurd (refused-no _ Malformed 0 (plan-at-end b g) h))
       (λ w g. links-found (readPlan b) u w (plan-at-links b g) h)
-      (λ w g. absurd (refused-no _ Malformed 0 (plan-at-flow b g) refl h))
+      (λ w g. absurd (refused-no _ Malformed 0 (plan-at-flow b g) h))
+
+  -- What is in form is read, as the set that it lists
+  pub form-read : (i : InForm b) → readPlan b ≡ listed (i .lmin) (i .lmax) (rowOf (i .flows))
+  form-read i = ap readPlan (i .bytes) ∙ write-read (i .lmin) (i .lmax) (i .flows) (i .readable)
 
 -- ---- a set that a plan can list is a valid set of the rules
 pub readable-valid : (lmin lmax : ℕ) (fs : List Flow) → Readable lmin lmax fs → Valid (netOf lmin lmax (rowOf fs))

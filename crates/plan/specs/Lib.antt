@@ -1,3 +1,4 @@
 -- The definitions of `plan`.
 pub mod Reading
 pub mod Writing
+pub mod Demands

@@ -19,6 +19,17 @@ use Rattle.reader.specs.declared.Kind.{Kind}
 use Rattle.reader.specs.declared.Kind.the-variants.{OfLinks, OfFlow, OfEnd, OfNone}
 use Rattle.reader.specs.Places.{kindAt}
 use Rattle.plan.specs.declared.Reading.{Reading}
+use Rattle.plan.specs.declared.Outcome.{Outcome}
+use Rattle.plan.specs.declared.Outcome.the-variants.{Read, Refused}
+
+-- the cause and the place that an outcome stands for; 0 is no refusal's number, and its place
+abbrev pub causeIn : Outcome → Cause
+causeIn Read = Accepted
+causeIn (Refused cause place) = cause
+
+abbrev pub placeIn : Outcome → ℕ
+placeIn Read = 0
+placeIn (Refused cause place) = place
 
 -- the body of the record at a place: the part of the plan after its kind byte
 abbrev pub bodyAt : List ℕ → ℕ → ℕ → List ℕ
@@ -32,11 +43,11 @@ linksAt b at = linksRead (bodyAt b at linksBody)
 
 -- a refused plan: the empty set and both link delays 0
 unfoldable pub refused : Cause → ℕ → Reading
-refused cause place = record { cause = cause; place = place; lmin = 0; lmax = 0; row = rowOf [] }
+refused cause place = record { outcome = Refused cause place; set = record { lmin = 0; lmax = 0; row = rowOf [] } }
 
 -- the set that a plan lists
 abbrev pub listed : ℕ → ℕ → Row → Reading
-listed lmin lmax row = record { cause = Accepted; place = 0; lmin = lmin; lmax = lmax; row = row }
+listed lmin lmax row = record { outcome = Read; set = record { lmin = lmin; lmax = lmax; row = row } }
 
 -- reading goes on where a record has no cause against it
 unfoldable pub unless : Cause → ℕ → Reading → Reading

@@ -11,16 +11,26 @@ ghost use Prim.Native.Nat.{_+_, _*_, _≤_};
 ghost use lib.ListN.{length, take, drop};
 ghost use Rattle.flows.specs.Lists.{held};
 ghost use Rattle.records.specs.Kinds.{linksRecord, flowRecord};
-ghost use Rattle.plan.specs.Reading.{flowAt, refused, recordCause, readEnd, readAfterLinks, readPlan, fallsTo};
+ghost use Rattle.plan.specs.Reading.{causeIn, placeIn, flowAt, refused, recordCause, readEnd, readAfterLinks, readPlan, fallsTo};
 ghost use Rattle.plan.specs.Writing.{linksBytes, flowBytes, flowsBytes, writtenInto, bufferAfter};
 
-// The set that a plan lists; or the refusal of a record and its place, with the empty set and both link delays 0.
-pub struct Reading {
-    pub cause: Cause,
-    pub place: usize,
+// What a plan lists: link delays, and flows that passed refusals 1 to 4 and 6 one by one. What they are together nobody has judged.
+pub struct FlowSet {
     pub lmin: u16,
     pub lmax: u16,
     pub row: Row,
+}
+
+// All records were read, or the first that is refused, with its place.
+pub enum Outcome {
+    Read,
+    Refused(Cause, usize),
+}
+
+// The set that the records list; if one is refused, the empty set with both link delays 0.
+pub struct Reading {
+    pub outcome: Outcome,
+    pub set: FlowSet,
 }
 
 // The length of the plan that was written, or the refusal of the buffer.
@@ -32,13 +42,32 @@ pub enum Written {
 fn refuse(cause: Cause, place: usize) -> Reading
     ensures { λ r. ⌜ r ≡ refused cause place ⌝ }
 {
+    let outcome = Outcome::Refused(cause, place);
     let row = row::none();
-    Reading {
-        cause,
-        place,
+    let set = FlowSet {
         lmin: 0,
         lmax: 0,
         row,
+    };
+    Reading { outcome, set }
+}
+
+// The cause that an outcome stands for.
+pub fn cause_in(outcome: Outcome) -> Cause
+    ensures { λ r. ⌜ r ≡ causeIn outcome ⌝ }
+{
+    match outcome {
+        Outcome::Read => Cause::Accepted,
+        Outcome::Refused(cause, _) => cause,
+    }
+}
+
+pub fn place_in(outcome: Outcome) -> usize
+    ensures { λ r. ⌜ r ≡ placeIn outcome ⌝ }
+{
+    match outcome {
+        Outcome::Read => 0,
+        Outcome::Refused(_, place) => place,
     }
 }
 
@@ -89,13 +118,9 @@ fn read_end(plan: &[u8], at: usize, lmin: u16, lmax: u16, row: Row) -> Reading
     if at + 1 < plan.len() {
         return refuse(Cause::Malformed, at + 1);
     }
-    Reading {
-        cause: Cause::Accepted,
-        place: 0,
-        lmin,
-        lmax,
-        row,
-    }
+    let outcome = Outcome::Read;
+    let set = FlowSet { lmin, lmax, row };
+    Reading { outcome, set }
 }
 
 // The records after the first. Each body is whole, so where no kind byte is left, at is the plan's length.
@@ -173,16 +198,17 @@ fn put_flows(buffer: &mut [u8], row: Row)
 }
 
 // The plan at the start of a buffer; one too short for it is refused and left as it was.
-pub fn write(buffer: &mut [u8], lmin: u16, lmax: u16, row: Row) -> Written
-    ensures { λ r. ⌜ r ≡ writtenInto (length (now (buffer .entry))) (length (held row)) ⌝ }
-    ensures { λ r. ⌜ now (buffer .exit) ≡ bufferAfter lmin lmax (held row) (now (buffer .entry)) ⌝ }
+pub fn write(buffer: &mut [u8], set: FlowSet) -> Written
+    ensures { λ r. ⌜ r ≡ writtenInto (length (now (buffer .entry))) (length (held (set .row))) ⌝ }
+    ensures { λ r. ⌜ now (buffer .exit) ≡ bufferAfter (set .lmin) (set .lmax) (held (set .row)) (now (buffer .entry)) ⌝ }
 {
+    let row = set.row;
     let end = records::LINKS_RECORD + records::FLOW_RECORD * row::size(row);
     let size = end + 1;
     if buffer.len() < size {
         return Written::Refused(flows::refuse(Cause::ShortBuffer, 0));
     }
-    put_links(buffer, lmin, lmax);
+    put_links(buffer, set.lmin, set.lmax);
     put_flows(buffer, row);
     buffer[end] = records::END_KIND;
     Written::Length(size)
