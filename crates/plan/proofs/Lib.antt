@@ -4,3 +4,4 @@ pub mod Puts
 pub mod Trips
 pub mod Refusals
 pub mod Cases
+pub mod Promises

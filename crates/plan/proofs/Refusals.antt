@@ -1,4 +1,4 @@
--- The place of a refusal is within the plan or at its end, and within the longest plan whatever is read.
+-- The place of a refusal is within the plan or at its end, and within the longest plan whatever is read; with a refusal goes the empty set.
 use Prim.Native.Nat.{ℕ, zero, suc, _+_, _*_, _≤_}
 use mathlib.Core.Path.{_≡_, refl}
 use mathlib.Core.Bool.{Bool, true, false, cond}
@@ -13,20 +13,21 @@ use Rattle.flows.specs.Refusals.{acceptedBy}
 use Rattle.flows.specs.Lists.{mostFlows, rowOf}
 use Rattle.flows.specs.Tests.{delayCause}
 use Rattle.records.specs.Kinds.{linksRecord, flowRecord}
+use Rattle.plan.specs.declared.Outcome.the-variants.{Read}
 use Rattle.plan.specs.declared.Reading.{Reading}
 use Rattle.reader.specs.Places.{kindAt}
-use Rattle.plan.specs.Reading.{placeIn, flowAt, linksAt, refused, listed, unless, recordCause, readFlows, readPlan}
+use Rattle.plan.specs.Reading.{placeIn, emptySet, flowAt, linksAt, refused, listed, unless, recordCause, readFlows, readPlan}
 use Rattle.plan.specs.Writing.{planLength}
 use Rattle.reader.proofs.Places.{found}
 use Rattle.plan.proofs.Steps.{nextAfter, flows-at-none, flows-at-links, flows-at-end, flows-at-flow, plan-at-links, plan-at-flow, plan-at-end, plan-at-none}
 
 abbrev pub Inside : List ℕ → ℕ → Reading → Type 0
-Inside b most r = (placeIn (r .outcome) ≤ length b) × (placeIn (r .outcome) ≤ most)
+Inside b most r = (placeIn (r .outcome) ≤ length b) × (placeIn (r .outcome) ≤ most) × ((r .outcome ≡ Read → ⊥) → r .set ≡ emptySet)
 
 module _ (b : List ℕ) (most : ℕ) where
   refused-inside : (r : Reading) (cause : Cause) (place : ℕ) → place ≤ length b → place ≤ most → r ≡ refused cause place → Inside b most r
   unfolding refused
-  refused-inside r cause place h g e = rw e (h, g)
+  refused-inside r cause place h g e = rw e (h, g, λ never. refl)
 
   unless-inside : (r : Reading) (cause : Cause) (place : ℕ) (next : Reading) → place ≤ length b → place ≤ most → Inside b most next →
       r ≡ unless cause place next → Inside b most r
@@ -43,7 +44,7 @@ module _ (b : List ℕ) (most : ℕ) where
     where
       go : (t : Bool) → r ≡ cond t (refused Malformed (at + 1)) (listed lmin lmax (rowOf fs)) → Inside b most r
       go true i = refused-inside r Malformed (at + 1) h g i
-      go false i = rw i (omega arith, omega arith)
+      go false i = rw i (omega arith, omega arith, λ never. absurd (never refl))
 
   record-inside : (room lmin lmax : ℕ) (fs : List Flow) (at : ℕ) → at ≤ length b → at + 1 ≤ most →
       (at + flowRecord ≤ length b → Inside b most (nextAfter room lmin lmax fs b at)) → Inside b most (readFlows room lmin lmax fs b at)
@@ -63,7 +64,7 @@ flows-inside (suc room) lmin lmax most fs b at h g =
     record-inside b most (suc room) lmin lmax fs at h (omega arith)
     (λ i. flows-inside room lmin lmax most (fs ++ (flowAt b at ∷ [])) b (at + flowRecord) i (omega arith))
 
--- So the place fits two bytes, and is never past the plan's end
+-- So the place fits two bytes, and is never past the plan's end; no flow is given with it
 pub place-inside : (b : List ℕ) → Inside b (planLength mostFlows) (readPlan b)
 place-inside b =
     found b 0 (kindAt b 0) refl

@@ -9,12 +9,11 @@ use lib.ListN.{length, getD, take, drop, length-append, length-drop, take-append
 use lib.Seq.{take-at, drop-append-add, drop-cons, drop-drop, getD-append-seam, getD-drop, append-snoc, length-take-le}
 use lib.Dec.{leb, ltb, eqb}
 use borrow.Author.Tests.{eqb-true, leb-false, le-ltb, lt-leb, ltb-false}
-use Rattle.rules.specs.Valid.{Valid}
 use Rattle.flows.specs.declared.Flow.{Flow}
 use Rattle.flows.specs.declared.Cause.{Cause}
 use Rattle.flows.specs.declared.Cause.the-variants.{Accepted, Full, Malformed}
 use Rattle.flows.specs.Refusals.{acceptedBy}
-use Rattle.flows.specs.Lists.{mostFlows, noFlow, rowOf, netOf}
+use Rattle.flows.specs.Lists.{mostFlows, noFlow, rowOf}
 use Rattle.flows.specs.Tests.{delayCause, flowCause}
 use Rattle.flows.specs.WellFormed.{Each, each-none, each-more, Typed}
 use Rattle.row.specs.Rows.{lastNumber, Rising, rising-none, rising-more}
@@ -33,7 +32,6 @@ use Rattle.plan.specs.Demands.{InForm}
 use Rattle.row.specs.Sets.{Readable}
 use Rattle.flows.proofs.Causes.{accepted-only}
 use Rattle.flows.proofs.Passed.{delays-formed, formed}
-use Rattle.row.proofs.Valid.{row-valid}
 use Rattle.row.proofs.Arrays.{length-snoc}
 use Rattle.records.proofs.Writing.{length-flow}
 use Rattle.records.proofs.RoundTrip.{read-typed, flow-back, links-back, flow-again, links-again}
@@ -163,13 +161,16 @@ module _ (b : List ℕ) (at kind n : ℕ) (w : Whole b at kind n) where
   body-long : length (take n (drop (at + 1) b)) ≡ n
   body-long = length-take-le n (drop (at + 1) b) (omega (arith, w .room, length-drop (at + 1) b))
 
-refused-no : (r : Reading) (c : Cause) (place : ℕ) → r ≡ refused c place → r .outcome ≡ Read → ⊥
-unfolding refused
-refused-no r c place e g = false≢true (ap (λ (x : Reading). isRead (x .outcome)) (sym e) ∙ ap isRead g)
+pub refused-read : (c : Cause) (place : ℕ) → Refused c place ≡ Read → ⊥
+refused-read c place e = false≢true (ap isRead e)
   where
     isRead : Outcome → Bool
     isRead Read = true
     isRead (Refused cause at) = false
+
+refused-no : (r : Reading) (c : Cause) (place : ℕ) → r ≡ refused c place → r .outcome ≡ Read → ⊥
+unfolding refused
+refused-no r c place e g = refused-read c place (ap (λ (x : Reading). x .outcome) (sym e) ∙ g)
 
 -- the flows that a reading found from a place on, what is known of them, and the bytes there
 record Found (fs : List Flow) (b : List ℕ) (at : ℕ) : Type 0 where
@@ -320,10 +321,6 @@ module _ (b : List ℕ) where
   -- What is in form is read, as the set that it lists
   pub form-read : (i : InForm b) → readPlan b ≡ listed (i .lmin) (i .lmax) (rowOf (i .flows))
   form-read i = ap readPlan (i .bytes) ∙ write-read (i .lmin) (i .lmax) (i .flows) (i .readable)
-
--- ---- a set that a plan can list is a valid set of the rules
-pub readable-valid : (lmin lmax : ℕ) (fs : List Flow) → Readable lmin lmax fs → Valid (netOf lmin lmax (rowOf fs))
-readable-valid lmin lmax fs s = row-valid lmin lmax fs (delays-formed lmin lmax (s .delays) .0) (s .rising) (s .flows) (s .typed)
 
 -- ---- the length of a plan
 flows-long : (fs : List Flow) → Each Typed fs → length (flowsBytes fs) ≡ flowRecord * length fs

@@ -1,7 +1,7 @@
 -- What reading and writing a set promise: RULES, reading and writing, in words. The equations that callers use stand in Reading and Writing.
 use Prim.Native.Nat.{ℕ, _+_, _*_, _≤_, _<_}
 use mathlib.Core.Path.{_≡_}
-use mathlib.Core.List.{List, [], _∷_, _++_}
+use mathlib.Core.List.{List, _∷_, _++_}
 use mathlib.Core.Logic.{_⊎_}
 use lib.ListN.{length, take, drop}
 use Rattle.flows.specs.declared.Flow.{Flow}
@@ -19,7 +19,7 @@ use Rattle.plan.specs.declared.Outcome.the-variants as outcome
 use Rattle.plan.specs.declared.Reading.{Reading}
 use Rattle.plan.specs.declared.Written.{Written}
 use Rattle.plan.specs.declared.Written.the-variants.{Length, Refused}
-use Rattle.plan.specs.Reading.{readPlan}
+use Rattle.plan.specs.Reading.{emptySet, readPlan}
 use Rattle.plan.specs.Writing.{linksBytes, flowBytes, flowsBytes, planBytes, writtenInto, bufferAfter}
 
 -- how many bytes the plan of a set has
@@ -90,8 +90,7 @@ pub record SetRead (b : List ℕ) (r : Reading) : Type 0 where
   pub lists : (i : InForm b) → r .set ≡ record { lmin = i .lmin; lmax = i .lmax; row = rowOf (i .flows) }
   pub back : r .outcome ≡ Read → (old : List ℕ) → length b ≤ length old → WritesBack b (r .set) old
   -- none of a refused plan is given
-  pub refused : (cause : Cause) (place : ℕ) → Exactly (r .outcome ≡ outcome.Refused cause place) (Unread b cause place)
-  pub empty : (r .outcome ≡ Read → ⊥) → r .set ≡ record { lmin = 0; lmax = 0; row = rowOf [] }
+  pub empty : (r .outcome ≡ Read → ⊥) → r .set ≡ emptySet
 
 -- ---- writing
 -- 13 and a buffer as it was, if it is short; otherwise the length, a buffer that keeps its rest, and whose beginning is read as that set and

@@ -18,6 +18,7 @@ use Rattle.records.specs.Bodies.{linksRead, flowRead}
 use Rattle.reader.specs.declared.Kind.{Kind}
 use Rattle.reader.specs.declared.Kind.the-variants.{OfLinks, OfFlow, OfEnd, OfNone}
 use Rattle.reader.specs.Places.{kindAt}
+use Rattle.plan.specs.declared.FlowSet.{FlowSet}
 use Rattle.plan.specs.declared.Reading.{Reading}
 use Rattle.plan.specs.declared.Outcome.{Outcome}
 use Rattle.plan.specs.declared.Outcome.the-variants.{Read, Refused}
@@ -41,9 +42,13 @@ flowAt b at = flowRead (bodyAt b at flowBody)
 abbrev pub linksAt : List ℕ → ℕ → Links
 linksAt b at = linksRead (bodyAt b at linksBody)
 
--- a refused plan: the empty set and both link delays 0
+-- no flows and both link delays 0
+abbrev pub emptySet : FlowSet
+emptySet = record { lmin = 0; lmax = 0; row = rowOf [] }
+
+-- none of a refused plan is given
 unfoldable pub refused : Cause → ℕ → Reading
-refused cause place = record { outcome = Refused cause place; set = record { lmin = 0; lmax = 0; row = rowOf [] } }
+refused cause place = record { outcome = Refused cause place; set = emptySet }
 
 -- the set that a plan lists
 abbrev pub listed : ℕ → ℕ → Row → Reading

@@ -7,8 +7,10 @@ use lib.Dec.{ltb}
 use Rattle.flows.specs.declared.Flow.{Flow}
 use Rattle.flows.specs.declared.Cause.the-variants.{ShortBuffer}
 use Rattle.flows.specs.Refusals.{refusalOf}
+use Rattle.flows.specs.Lists.{held}
 use Rattle.records.specs.Kinds.{linksKind, linksRecord, flowKind, flowRecord, endKind}
 use Rattle.records.specs.Bodies.{linksWritten, flowWritten}
+use Rattle.plan.specs.declared.FlowSet.{FlowSet}
 use Rattle.plan.specs.declared.Written.{Written}
 use Rattle.plan.specs.declared.Written.the-variants.{Length, Refused}
 
@@ -25,6 +27,10 @@ flowsBytes (f ∷ fs) = flowBytes f ++ flowsBytes fs
 -- 01, then each 02, then 7F
 unfoldable pub planBytes : ℕ → ℕ → List Flow → List ℕ
 planBytes lmin lmax fs = linksBytes lmin lmax ++ flowsBytes fs ++ (endKind ∷ [])
+
+-- the plan of a set
+abbrev pub setBytes : FlowSet → List ℕ
+setBytes s = planBytes (s .lmin) (s .lmax) (held (s .row))
 
 -- the sum of the records: 6 + 34 × n
 abbrev pub planLength : ℕ → ℕ

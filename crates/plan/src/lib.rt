@@ -13,6 +13,7 @@ ghost use Rattle.flows.specs.Lists.{held};
 ghost use Rattle.records.specs.Kinds.{linksRecord, flowRecord};
 ghost use Rattle.plan.specs.Reading.{causeIn, placeIn, flowAt, refused, recordCause, readEnd, readAfterLinks, readPlan, fallsTo};
 ghost use Rattle.plan.specs.Writing.{linksBytes, flowBytes, flowsBytes, writtenInto, bufferAfter};
+ghost use Rattle.plan.specs.Demands.{WasRead, SetRead, SetWritten};
 
 // What a plan lists: link delays, and flows that passed refusals 1 to 4 and 6 one by one. What they are together nobody has judged.
 pub struct FlowSet {
@@ -147,6 +148,7 @@ fn read_flows(plan: &[u8], lmin: u16, lmax: u16) -> Reading
 // The records from the first on, until one is refused. RULES, reading.
 pub fn read(plan: &[u8]) -> Reading
     ensures { λ r. ⌜ r ≡ readPlan (now (plan .entry)) ⌝ }
+    ensures { λ r. ⌜ SetRead (now (plan .entry)) r ⌝ }
 {
     let Kind::OfLinks = reader::seen(plan, 0) else {
         return refuse(Cause::Malformed, 0);
@@ -201,6 +203,7 @@ fn put_flows(buffer: &mut [u8], row: Row)
 pub fn write(buffer: &mut [u8], set: FlowSet) -> Written
     ensures { λ r. ⌜ r ≡ writtenInto (length (now (buffer .entry))) (length (held (set .row))) ⌝ }
     ensures { λ r. ⌜ now (buffer .exit) ≡ bufferAfter (set .lmin) (set .lmax) (held (set .row)) (now (buffer .entry)) ⌝ }
+    ensures { λ r. ⌜ (WasRead set → SetWritten set (now (buffer .entry)) r (now (buffer .exit))) ⌝ }
 {
     let row = set.row;
     let end = records::LINKS_RECORD + records::FLOW_RECORD * row::size(row);

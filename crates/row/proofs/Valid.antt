@@ -1,5 +1,5 @@
--- A row whose flows passed refusals 2 to 4, in rising number, is a valid set of the rules.
-use Prim.Native.Nat.{ℕ, _≤_, _<_}
+-- A set that a plan can list is a valid set of the rules; the empty one.
+use Prim.Native.Nat.{ℕ, _<_}
 use mathlib.Core.Path.{_≡_}
 use mathlib.Core.List.{List, [], _∷_, map, List·Memᴰ, List·Memᴰ·not-nil, List·Memᴰ·cases-cons}
 use mathlib.Core.Logic.{⊎-elim}
@@ -8,12 +8,12 @@ use Rattle.rules.specs.Net as net
 use Rattle.rules.specs.Valid.{InRange, RisingNumbers, Valid}
 use Rattle.flows.specs.declared.Flow.{Flow}
 use Rattle.flows.specs.declared.Cause.the-variants.{Accepted}
-use Rattle.flows.specs.Lists.{rowOf, flowOf, netOf}
-use Rattle.flows.specs.Tests.{flowCause}
-use Rattle.flows.specs.WellFormed.{Each, each-more, Typed}
-use Rattle.row.specs.Rows.{Rising, rising-more}
-use Rattle.flows.proofs.Passed.{formed, formula-range}
-use Rattle.row.proofs.Arrays.{held-rowOf}
+use Rattle.flows.specs.Lists.{flowOf, netFrom}
+use Rattle.flows.specs.Tests.{delayCause, flowCause}
+use Rattle.flows.specs.WellFormed.{Each, each-none, each-more, Typed}
+use Rattle.row.specs.Rows.{Rising, rising-none, rising-more}
+use Rattle.row.specs.Sets.{Readable}
+use Rattle.flows.proofs.Passed.{delays-formed, formed, formula-range}
 
 above : {n : ℕ} {j : net.Flow} (fs : List Flow) → Rising n fs → List·Memᴰ j (map flowOf fs) → n < j .number
 above [] r m = absurd (List·Memᴰ·not-nil m)
@@ -31,7 +31,13 @@ in-range (f ∷ fs) (each-more e c) (each-more u t) i m =
     (λ (k : List·Memᴰ i (map flowOf fs)). in-range fs c t i k)
     (List·Memᴰ·cases-cons m)
 
-pub row-valid : {n : ℕ} (lmin lmax : ℕ) (fs : List Flow) → lmin ≤ lmax → Rising n fs → Each (λ f. flowCause f ≡ Accepted) fs → Each Typed fs →
-    Valid (netOf lmin lmax (rowOf fs))
-row-valid lmin lmax fs h r c t =
-    rw (held-rowOf fs) (record { links = h; flows = in-range fs c t; rising = rising-numbers fs r })
+module _ (lmin lmax : ℕ) where
+  pub readable-valid : (fs : List Flow) → Readable lmin lmax fs → Valid (netFrom lmin lmax fs)
+  readable-valid fs s = record {
+    links = delays-formed lmin lmax (s .delays) .0;
+    flows = in-range fs (s .flows) (s .typed);
+    rising = rising-numbers fs (s .rising);
+  }
+
+  pub readable-none : delayCause lmin lmax ≡ Accepted → Readable lmin lmax []
+  readable-none e = record { delays = e; rising = rising-none; count = omega arith; flows = each-none; typed = each-none }

@@ -21,7 +21,8 @@ use Rattle.table.specs.Calls.{askedBy, askedFor}
 use Rattle.table.specs.Made.{Made}
 use Rattle.table.specs.Demands.{Present, Figured}
 use Rattle.table.proofs.Nets.{Accepting, accepting}
-use Rattle.table.proofs.Kept.{kept-valid, Right, made-right}
+use Rattle.row.proofs.Valid.{readable-valid}
+use Rattle.table.proofs.Kept.{Right, made-right}
 
 -- a flow that is present is found at its place
 place-of : (f : Flow) (fs : List Flow) → RisingNumbers (map flowOf fs) → List·Memᴰ f fs →
@@ -43,7 +44,7 @@ shown-at figure (f ∷ fs) rest (suc k) h = shown-at figure fs rest k (omega ari
 
 module _ (t : Table) (r : Right t) where
   pub right-valid : Valid (tableNet t)
-  right-valid = kept-valid (t .lmin) (t .lmax) (held (t .row)) (r .set)
+  right-valid = readable-valid (t .lmin) (t .lmax) (held (t .row)) (r .set)
 
   pub right-accepting : Accepting (tableNet t) (r .givens)
   right-accepting = accepting (tableNet t) (judged (tableNet t)) (r .givens) (r .accepted) (judged-is (tableNet t) right-valid)

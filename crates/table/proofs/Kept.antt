@@ -9,24 +9,23 @@ use lib.Dec.{ltb, eqb}
 use borrow.Author.Tests.{lt-leb}
 use Rattle.least.proofs.Fold.{sublist-map}
 use Rattle.rules.specs.Net as net
-use Rattle.rules.specs.Valid.{Valid}
 use Rattle.rules.specs.Judge.{judged}
 use Rattle.flows.specs.declared.Flow.{Flow}
 use Rattle.flows.specs.declared.Table.{Table}
 use Rattle.flows.specs.declared.Cause.the-variants.{Accepted, Crossing, NoBusyLength, Unsettled, PastDeadline}
 use Rattle.flows.specs.Refusals.{acceptedBy}
-use Rattle.flows.specs.Lists.{mostFlows, held, rowOf, flowOf, netFrom, netOf, tableNet}
+use Rattle.flows.specs.Lists.{mostFlows, held, rowOf, flowOf, netFrom, tableNet}
 use Rattle.flows.specs.Tests.{delayCause}
-use Rattle.flows.specs.WellFormed.{each-none, Typed}
+use Rattle.flows.specs.WellFormed.{Typed}
 use Rattle.flows.proofs.Causes.{accepted-only}
-use Rattle.flows.proofs.Passed.{delays-formed, formed-passes}
+use Rattle.flows.proofs.Passed.{formed-passes}
 use Rattle.row.specs.declared.Found.{Found}
 use Rattle.row.specs.declared.Found.the-variants.{At, Nothing}
 use Rattle.row.specs.Sets.{Readable, Enters}
-use Rattle.row.specs.Rows.{foundIn, insertSorted, without, inserted, entryCause, rising-none}
+use Rattle.row.specs.Rows.{foundIn, insertSorted, without, inserted, entryCause}
 use Rattle.row.proofs.Arrays.{held-rowOf}
 use Rattle.row.proofs.Sets.{insert-rising, without-rising, insert-each, without-each, enters}
-use Rattle.row.proofs.Valid.{row-valid}
+use Rattle.row.proofs.Valid.{readable-valid, readable-none}
 use Rattle.engine.specs.Verdicts.{causeOf, refused, given, verdictFrom, verdictOf}
 use Rattle.table.specs.Calls.{emptyTable, answered, unless, freshAnswer, holding, decided, judgedRow, admitted, withdrawnBy, withdrawn}
 use Rattle.table.specs.Made.{Made, by-fresh, by-admit, by-withdraw}
@@ -38,13 +37,6 @@ pub record Right (t : Table) : Type 0 where
   pub givens : List net.Figures
   pub accepted : judged (tableNet t) ≡ net.Given givens
   pub figures : t .figures ≡ given givens .figures
-
-row-net : (lmin lmax : ℕ) (fs : List Flow) → netOf lmin lmax (rowOf fs) ≡ netFrom lmin lmax fs
-row-net lmin lmax fs = ap (netFrom lmin lmax) (held-rowOf fs)
-
-pub kept-valid : (lmin lmax : ℕ) (fs : List Flow) → Readable lmin lmax fs → Valid (netFrom lmin lmax fs)
-kept-valid lmin lmax fs k =
-    subst Valid (row-net lmin lmax fs) (row-valid lmin lmax fs (delays-formed lmin lmax (k .delays) .0) (k .rising) (k .flows) (k .typed))
 
 pub right-of : (t : Table) (fs : List Flow) (gs : List net.Figures) → t .row ≡ rowOf fs → Readable (t .lmin) (t .lmax) fs →
     judged (netFrom (t .lmin) (t .lmax) fs) ≡ net.Given gs → t .figures ≡ given gs .figures → Right t
@@ -59,12 +51,9 @@ right-of t fs gs e k j g =
     }
 
 -- ---- the empty table
-kept-none : (lmin lmax : ℕ) → delayCause lmin lmax ≡ Accepted → Readable lmin lmax []
-kept-none lmin lmax e = record { delays = e; rising = rising-none; count = omega arith; flows = each-none; typed = each-none }
-
 pub empty-right : (lmin lmax : ℕ) → delayCause lmin lmax ≡ Accepted → Right (emptyTable lmin lmax)
 unfolding emptyTable given
-empty-right lmin lmax e = right-of (emptyTable lmin lmax) [] [] refl (kept-none lmin lmax e) (none-accepted lmin lmax) refl
+empty-right lmin lmax e = right-of (emptyTable lmin lmax) [] [] refl (readable-none lmin lmax e) (none-accepted lmin lmax) refl
 
 pub fresh-right : (lmin lmax : ℕ) → Right (freshAnswer lmin lmax .table)
 unfolding freshAnswer unless answered delayCause
@@ -175,7 +164,7 @@ module _ (t : Table) (r : Right t) (number : ℕ) where
   pub fewer-given : (gs : List net.Figures) × (judged (netFrom (t .lmin) (t .lmax) fewer) ≡ net.Given gs)
   fewer-given =
       part-accepted (netFrom (t .lmin) (t .lmax) fewer) (tableNet t) refl refl (sublist-map flowOf (without-part number (held (t .row))))
-      (kept-valid (t .lmin) (t .lmax) (held (t .row)) (r .set)) (r .givens) (r .accepted)
+      (readable-valid (t .lmin) (t .lmax) (held (t .row)) (r .set)) (r .givens) (r .accepted)
 
   pub withdraw-right : Right (withdrawn t number .table)
   unfolding withdrawn withdrawnBy answered holding verdictOf verdictFrom

@@ -29,7 +29,8 @@ use Rattle.table.specs.Calls.{answered, unless, admitted}
 use Rattle.table.specs.Made.{Made}
 use Rattle.table.specs.Demands.{enlargedNet, CrossingPermitted, Unfit, no-busy-length, not-settled, past-deadline, OfAdmission, by-entry, by-set}
 use Rattle.table.proofs.Nets.{accepting}
-use Rattle.table.proofs.Kept.{kept-valid, admit-kept, admit-decided, made-right}
+use Rattle.row.proofs.Valid.{readable-valid}
+use Rattle.table.proofs.Kept.{admit-kept, admit-decided, made-right}
 use Rattle.table.proofs.Calls.{decided-cause, admit-done}
 
 module _ (N : net.Net) (v : Valid N) where
@@ -59,7 +60,7 @@ module _ (t : Table) (made : Made t) (f : Flow) (u : Typed f) where
 
   module _ (n : Enters (held (t .row)) f) where
     enlarged-valid : Valid N
-    enlarged-valid = kept-valid (t .lmin) (t .lmax) (insertSorted f (held (t .row))) (admit-kept t f n (made-right t made .set) u)
+    enlarged-valid = readable-valid (t .lmin) (t .lmax) (insertSorted f (held (t .row))) (admit-kept t f n (made-right t made .set) u)
 
     set-cause : admitted t f .cause ≡ verdictFrom (judged N) .cause
     set-cause =

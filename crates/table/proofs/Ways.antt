@@ -30,7 +30,8 @@ use Rattle.engine.specs.declared.Verdict.{Verdict}
 use Rattle.engine.specs.Verdicts.{noFigures, verdictOf}
 use Rattle.table.specs.Calls.{emptyTable, answered, unless, freshAnswer, holding, decided, judgedRow, admitted, withdrawnBy, withdrawn, askedBy, askedFor}
 use Rattle.table.specs.Made.{Made}
-use Rattle.table.proofs.Kept.{kept-valid, admit-row, admit-kept, withdraw-kept, made-right}
+use Rattle.row.proofs.Valid.{readable-valid}
+use Rattle.table.proofs.Kept.{admit-row, admit-kept, withdraw-kept, made-right}
 
 pub empty-made : (lmin lmax : ℕ) (row : Row) (none : Figures) → row ≡ rowOf [] → none ≡ noFigures →
     record { lmin = lmin; lmax = lmax; row = row; figures = replicate mostFlows none } ≡ emptyTable lmin lmax
@@ -80,7 +81,7 @@ module _ (t : Table) (f : Flow) (u : Typed f) (cause : Cause) (e : cause ≡ ent
   admit-judged larger v h i k j m =
       let c : entryCause (held (t .row)) f ≡ Accepted = sym e ∙ accepted-only cause (sym g ∙ not-false b h) in
       let n = enters (held (t .row)) f u c in
-      let valid = row-valid-net (t .lmin) (t .lmax) _ larger (i ∙ admit-row t f n) (kept-valid (t .lmin) (t .lmax) _ (admit-kept t f n (made-right t m .set) u)) in
+      let valid = row-valid-net (t .lmin) (t .lmax) _ larger (i ∙ admit-row t f n) (readable-valid (t .lmin) (t .lmax) _ (admit-kept t f n (made-right t m .set) u)) in
       j ∙ ap (decided t larger) (k valid) ∙ ap (λ (row : Row). decided t row (judgedRow t row)) i ∙ rw c
 
 -- ---- withdraw
@@ -94,7 +95,7 @@ module _ (t : Table) (number : ℕ) (found : Found) (e : found ≡ foundIn (held
       r ≡ answered Accepted u → Made t → r ≡ withdrawn t number
   unfolding withdrawn withdrawnBy
   withdraw-judged place smaller v u h i k l j m =
-      let valid = row-valid-net (t .lmin) (t .lmax) _ smaller i (kept-valid (t .lmin) (t .lmax) _ (withdraw-kept t (made-right t m) number)) in
+      let valid = row-valid-net (t .lmin) (t .lmax) _ smaller i (readable-valid (t .lmin) (t .lmax) _ (withdraw-kept t (made-right t m) number)) in
       j ∙ ap (answered Accepted) (l ∙ ap (λ (w : Verdict). holding t smaller (w .figures)) (k valid) ∙
       ap (λ (row : Row). holding t row (judgedRow t row .figures)) i) ∙ ap (withdrawnBy t number) (sym h ∙ e)
 

@@ -3,6 +3,7 @@ use native.Mathlib.Omega.{arith}
 use borrow.Author.Needs.{needs}
 use Rattle.reader.proofs.Places.{whole-links}
 use Rattle.plan.proofs.Steps.{plan-other, plan-delays, plan-read}
+use Rattle.plan.proofs.Promises.{read-promise}
 use Rattle.plan.proofs.read.Statement.{statement}
 use Rattle.plan.proofs.read.Tie as tie
 
@@ -16,7 +17,7 @@ refuse-requires : tie.Need-refuse-requires
 refuse-requires c κs = search needs
 
 returns : tie.Need-returns
-returns c = search plan-other
+returns c = (search plan-other, search (read-promise, plan-other, needs))
 
 sub-read-links : tie.Need-sub-read-links
 sub-read-links c = search needs
@@ -40,13 +41,13 @@ refuse-requires-2 : tie.Need-refuse-requires-2
 refuse-requires-2 c κs = search needs
 
 returns-2 : tie.Need-returns-2
-returns-2 c = search plan-delays
+returns-2 c = (search plan-delays, search (read-promise, plan-delays, needs))
 
 read-flows-requires : tie.Need-read-flows-requires
 read-flows-requires c κs = search needs
 
 returns-3 : tie.Need-returns-3
-returns-3 c = search plan-read
+returns-3 c = (search plan-read, search (read-promise, plan-read, needs))
 
 pub read-spec : {M : Type 1} → statement M
 read-spec =

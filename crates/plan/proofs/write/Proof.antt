@@ -3,6 +3,7 @@ use native.Mathlib.Omega.{arith}
 use lib.ListN.{length-set}
 use borrow.Author.Needs.{needs}
 use Rattle.plan.proofs.Puts.{wrote-short, wrote-all, kept, filled}
+use Rattle.plan.proofs.Promises.{write-promise}
 use Rattle.plan.proofs.write.Statement.{statement}
 use Rattle.plan.proofs.write.Tie as tie
 
@@ -22,7 +23,7 @@ refuse-requires : tie.Need-refuse-requires
 refuse-requires c κs = search needs
 
 returns : tie.Need-returns
-returns c = (search wrote-short, search kept)
+returns c = (search wrote-short, (search kept, search (write-promise, wrote-short, kept)))
 
 put-links-requires : tie.Need-put-links-requires
 put-links-requires c κs = search needs
@@ -37,7 +38,7 @@ same-length : tie.Need-same-length
 same-length c = simp length-set (omega arith)
 
 returns-2 : tie.Need-returns-2
-returns-2 c = (search wrote-all, search filled)
+returns-2 c = (search wrote-all, (search filled, search (write-promise, wrote-all, filled)))
 
 pub write-spec : {M : Type 1} → statement M
 write-spec =
