@@ -54,7 +54,7 @@ read-proper s w = subst Proper (w .given) (go (readPlan (w .bytes) .outcome) ref
         let i = plan-form (w .bytes) (w .fit) e in
         subst (λ (r : Reading). Proper (r .set)) (sym (form-read (w .bytes) i)) (proper-of (i .lmin) (i .lmax) (i .flows) (i .readable))
     go (outcome.Refused cause place) e =
-        subst Proper (sym (place-inside (w .bytes) .2 (λ g. refused-read cause place (sym e ∙ g)))) (proper-of 0 0 [] (readable-none 0 0 refl))
+        subst Proper (sym (place-inside (w .bytes) .empty (λ g. refused-read cause place (sym e ∙ g)))) (proper-of 0 0 [] (readable-none 0 0 refl))
 
 -- What is read and then written is the bytes that were read
 pub read-write : (b : List ℕ) → Bytes b → (s : FlowSet) → readPlan b ≡ record { outcome = Read; set = s } → setBytes s ≡ b
@@ -146,7 +146,7 @@ module _ (b : List ℕ) (u : Bytes b) where
     back =
         λ h old. writes-back (readPlan b .set) (read-proper (readPlan b .set) was-read) old b
         (read-write b u (readPlan b .set) (ap (λ (o : Outcome). record { outcome = o; set = readPlan b .set }) h));
-    empty = place-inside b .2;
+    empty = place-inside b .empty;
   }
 
 pub read-promise : (b : List ℕ) → ((k : ℕ) → Fits w8 (getD b k 0)) → (r : Reading) → r ≡ readPlan b → SetRead b r

@@ -1,42 +1,56 @@
--- What reading and writing a whole plan promise: RULES, demands, in the demands' words. The equations that callers use stand in Plans.
-use Prim.Native.Nat.{ℕ, _+_, _*_, _≤_, _<_}
+-- What judging a set, and reading and writing a whole plan, promise: RULES, demands, in the demands' words. The equations that callers use stand in Plans.
+use Prim.Native.Nat.{ℕ, _≤_}
 use mathlib.Core.Path.{_≡_}
-use mathlib.Core.List.{List, _++_}
-use lib.ListN.{length, take, drop}
+use mathlib.Core.List.{List}
+use lib.ListN.{length, take}
+use Rattle.rules.specs.Net as net
+use Rattle.rules.specs.Meaning.{Judged}
 use Rattle.flows.specs.declared.Flow.{Flow}
 use Rattle.flows.specs.declared.Table.{Table}
 use Rattle.flows.specs.declared.Answer.{Answer}
+use Rattle.flows.specs.declared.Cause.{Cause}
 use Rattle.flows.specs.declared.Cause.the-variants.{Accepted}
-use Rattle.flows.specs.Lists.{held}
+use Rattle.flows.specs.Lists.{netOf}
+use Rattle.flows.specs.WellFormed.{Exact}
 use Rattle.records.specs.Bodies.{Bytes}
+use Rattle.plan.specs.declared.FlowSet.{FlowSet}
 use Rattle.plan.specs.declared.Written.{Written}
-use Rattle.plan.specs.declared.Written.the-variants.{Length, Refused}
-use Rattle.plan.specs.Writing.{writtenInto, bufferAfter}
+use Rattle.plan.specs.Writing.{setBytes}
+use Rattle.plan.specs.Demands.{size, WritesBack, SetWritten}
+use Rattle.engine.specs.Verdicts.{verdictFrom}
 use Rattle.table.specs.Calls.{answered}
 use Rattle.table.specs.Demands.{Present, Sound}
-use Rattle.plans.specs.Plans.{planAnswer}
+use Rattle.plans.specs.Plans.{planAnswer, setOf, tableBytes}
 
--- how many bytes the plan of a table has
-abbrev pub size : Table → ℕ
-size t = 6 + 34 * length (held (t .row))
+-- the empty table with both link delays 0
+pub record Empty (t : Table) : Type 0 where
+  pub flows : (f : Flow) → Present t f → ⊥
+  pub lmin : t .lmin ≡ 0
+  pub lmax : t .lmax ≡ 0
 
--- ---- reading
--- whoever writes the table of an accepted plan has the plan's bytes at the start of the buffer, and the rest as it was
-pub record WritesBack (b : List ℕ) (t : Table) (old : List ℕ) : Type 0 where
-  pub answer : writtenInto (length old) (length (held (t .row))) ≡ Length (length b)
-  pub buffer : bufferAfter (t .lmin) (t .lmax) (held (t .row)) old ≡ b ++ drop (length b) old
+-- ---- judging
+-- the lowest refusal from 7 to 10 that applies, with the least flow at fault, or none: the judgement of the set that is meant
+pub data OfSet (s : FlowSet) : Cause → Type 0 where
+  by-judgement : (v : net.Judgement) → Judged (netOf (s .lmin) (s .lmax) (s .row)) v → OfSet s (verdictFrom v .cause)
 
+pub record SetJudged (s : FlowSet) (r : Answer) : Type 0 where
+  pub cause : Exact (r .cause) (OfSet s)
+  pub place : r .place ≡ 0
+  -- the set's own link delays and flows, and so its bytes
+  pub accepted : r .cause ≡ Accepted → setOf (r .table) ≡ s
+  pub bytes : r .cause ≡ Accepted → tableBytes (r .table) ≡ setBytes s
+  pub refused : (r .cause ≡ Accepted → ⊥) → Empty (r .table)
+  pub sound : Sound (r .table)
+
+-- ---- reading, then judging
 pub record PlanRead (b : List ℕ) (r : Answer) : Type 0 where
-  pub accepted : r .cause ≡ Accepted → (r .place ≡ 0) × ((old : List ℕ) → length b ≤ length old → WritesBack b (r .table) old)
-  -- the empty table with both link delays 0
-  pub refused : (r .cause ≡ Accepted → ⊥) → ((f : Flow) → Present (r .table) f → ⊥) × (r .table .lmin ≡ 0) × (r .table .lmax ≡ 0)
+  pub accepted : r .cause ≡ Accepted → (r .place ≡ 0) × ((old : List ℕ) → length b ≤ length old → WritesBack b (setOf (r .table)) old)
+  pub refused : (r .cause ≡ Accepted → ⊥) → Empty (r .table)
   pub sound : Sound (r .table)
 
 -- ---- writing
--- 13 and a buffer as it was, if it is short; otherwise the length, a buffer that keeps its rest, and whose beginning is read as that table and,
--- where the table was read from a plan, is that plan
+-- as its set is written; the buffer's beginning is then read and judged as that table and, where the table was so made of a plan, is that plan
 pub record PlanWritten (t : Table) (old : List ℕ) (r : Written) (new : List ℕ) : Type 0 where
-  pub short : length old < size t → (r ≡ Refused (record { number = 13; flow = 0; place = 0 })) × (new ≡ old)
-  pub long : size t ≤ length old → (r ≡ Length (size t)) × (length new ≡ length old) × (drop (size t) new ≡ drop (size t) old)
-  pub read : size t ≤ length old → planAnswer (take (size t) new) ≡ answered Accepted t
-  pub plan : size t ≤ length old → (b : List ℕ) → Bytes b → planAnswer b .cause ≡ Accepted → planAnswer b .table ≡ t → take (size t) new ≡ b
+  pub set : SetWritten (setOf t) old r new
+  pub read : size (setOf t) ≤ length old → planAnswer (take (size (setOf t)) new) ≡ answered Accepted t
+  pub plan : size (setOf t) ≤ length old → (b : List ℕ) → Bytes b → planAnswer b .cause ≡ Accepted → planAnswer b .table ≡ t → take (size (setOf t)) new ≡ b

@@ -1,18 +1,19 @@
-// Whole plans: the records first, then the set that they list.
+// Sets judged, and whole plans: read, then judged.
 use flows::Answer;
 use flows::Cause;
 use flows::FLOWS;
-use flows::Row;
 use flows::Table;
+use plan::FlowSet;
+use plan::Outcome;
 use plan::Written;
 ghost use mathlib.Core.Path.{_≡_};
 ghost use lib.ListN.{length};
-ghost use Rattle.rules.specs.Valid.{Valid};
-ghost use Rattle.flows.specs.Lists.{held, netOf};
+ghost use Rattle.flows.specs.Lists.{held};
 ghost use Rattle.plan.specs.Writing.{writtenInto, bufferAfter};
+ghost use Rattle.plan.specs.Demands.{WasRead};
 ghost use Rattle.table.specs.Made.{Made};
 ghost use Rattle.plans.specs.Plans.{refusedPlan, setAnswer, planAnswer};
-ghost use Rattle.plans.specs.Demands.{PlanRead, PlanWritten};
+ghost use Rattle.plans.specs.Demands.{SetJudged, PlanRead, PlanWritten};
 
 // The empty table with both link delays 0 goes with every refusal.
 fn refuse(cause: Cause, place: usize) -> Answer
@@ -33,19 +34,21 @@ fn refuse(cause: Cause, place: usize) -> Answer
     }
 }
 
-// 7 to 10, of all flows together.
-fn judge_set(lmin: u16, lmax: u16, row: Row) -> Answer
-    ensures { λ r. ⌜ (Valid (netOf lmin lmax row) → r ≡ setAnswer lmin lmax row) ⌝ }
+// The table of a set that was read, or 7 to 10, of all its flows together. The caller still has the set.
+pub fn judge_set(set: FlowSet) -> Answer
+    ensures { λ r. ⌜ (WasRead set → r ≡ setAnswer set) ⌝ }
+    ensures { λ r. ⌜ (WasRead set → SetJudged set r) ⌝ }
 {
-    let verdict = engine::judge(row, lmin, lmax);
+    let row = set.row;
+    let verdict = engine::judge(row, set.lmin, set.lmax);
     let cause = verdict.cause;
     if !flows::accepted(cause) {
         return refuse(cause, 0);
     }
     let figures = verdict.figures;
     let table = Table {
-        lmin,
-        lmax,
+        lmin: set.lmin,
+        lmax: set.lmax,
         row,
         figures,
     };
@@ -56,18 +59,18 @@ fn judge_set(lmin: u16, lmax: u16, row: Row) -> Answer
     }
 }
 
-// The table of the plan, or why not and where.
+// The table of the plan, or why not and where: its records are read, then the set that they list is judged.
 pub fn read_plan(plan: &[u8]) -> Answer
     ensures { λ r. ⌜ r ≡ planAnswer (now (plan .entry)) ⌝ }
     ensures { λ r. ⌜ PlanRead (now (plan .entry)) r ⌝ }
 {
     let reading = plan::read(plan);
-    let cause = reading.cause;
-    if !flows::accepted(cause) {
-        return refuse(cause, reading.place);
-    }
-    let row = reading.row;
-    judge_set(reading.lmin, reading.lmax, row)
+    let outcome = reading.outcome;
+    let Outcome::Read = outcome else {
+        return refuse(plan::cause_in(outcome), plan::place_in(outcome));
+    };
+    let set = reading.set;
+    judge_set(set)
 }
 
 // The plan of the table, at the start of a buffer; one too short for it is refused and left as it was.
@@ -77,5 +80,10 @@ pub fn write_plan(buffer: &mut [u8], t: Table) -> Written
     ensures { λ r. ⌜ (Made t → PlanWritten t (now (buffer .entry)) r (now (buffer .exit))) ⌝ }
 {
     let row = t.row;
-    plan::write(buffer, t.lmin, t.lmax, row)
+    let set = FlowSet {
+        lmin: t.lmin,
+        lmax: t.lmax,
+        row,
+    };
+    plan::write(buffer, set)
 }

@@ -1,5 +1,6 @@
 -- `plans::judge_set` meets its contract.
 use Rattle.plans.proofs.Answers.{set-refused, set-accepted}
+use Rattle.plans.proofs.Promises.{judge-promise}
 use borrow.Author.Needs.{needs}
 use Rattle.plans.proofs.judge_set.Statement.{statement}
 use Rattle.plans.proofs.judge_set.Tie as tie
@@ -19,10 +20,10 @@ refuse-requires : tie.Need-refuse-requires
 refuse-requires c κs = search needs
 
 returns : tie.Need-returns
-returns c = search set-refused
+returns c = (search set-refused, search (judge-promise, set-refused))
 
 returns-2 : tie.Need-returns-2
-returns-2 c = search set-accepted
+returns-2 c = (search set-accepted, search (judge-promise, set-accepted))
 
 pub judge-set-spec : {M : Type 1} → statement M
 judge-set-spec =
