@@ -1,7 +1,6 @@
 -- Places that fit, flow numbers past 255, and a law for each way out. Assumes nothing.
 use Prim.Native.Nat.{ℕ, _≤_, _<_}
-use mathlib.Core.Path.{_≡_, refl, sym, ap, _∙_, subst}
-use mathlib.Core.Bool.{Bool, true, false, cond}
+use mathlib.Core.Path.{_≡_, sym, ap, _∙_, subst}
 use mathlib.Core.List.{List, [], _∷_}
 use native.Mathlib.Omega.{arith}
 use lib.ListN.{length, getD}
@@ -9,52 +8,34 @@ use mir.Val.{Fits}
 use mir.Syntax.{w8}
 use borrow.Author.Tests.{ne-eqb, le-ltb}
 use Rattle.flows.specs.declared.Flow.{Flow}
-use Rattle.flows.specs.declared.Row.{Row}
 use Rattle.flows.specs.declared.Table.{Table}
 use Rattle.flows.specs.declared.Answer.{Answer}
 use Rattle.flows.specs.declared.Asked.{Asked}
 use Rattle.flows.specs.declared.Asked.the-variants.{Given, Refused}
 use Rattle.flows.specs.declared.Figures.{Figures}
 use Rattle.flows.specs.declared.Refusal.{Refusal}
-use Rattle.flows.specs.Refusals.{acceptedBy}
 use Rattle.flows.specs.Lists.{held}
 use Rattle.flows.specs.WellFormed.{Each, each-more, Typed}
 use Rattle.row.specs.declared.Found.{Found}
 use Rattle.row.specs.declared.Found.the-variants.{Nothing}
 use Rattle.row.specs.Rows.{firstOf, placeOf, foundIn}
-use Rattle.plan.specs.declared.Reading.{Reading}
 use Rattle.plan.specs.Reading.{readPlan}
 use Rattle.plan.proofs.Refusals.{place-inside}
-use Rattle.engine.specs.declared.Verdict.{Verdict}
-use Rattle.engine.specs.Verdicts.{verdictOf}
+use Rattle.plan.proofs.Promises.{bytes-fit}
 use Rattle.table.specs.Calls.{askedBy, askedFor}
 use Rattle.table.specs.Made.{Made}
 use Rattle.table.proofs.Kept.{made-right}
-use Rattle.plans.specs.Plans.{refusedPlan, acceptedPlan, decidedBy, setAnswer, answerTo, planAnswer}
-use Rattle.plans.proofs.Answers.{bytes-fit}
-use Rattle.plans.proofs.Trips.{answer-made}
+use Rattle.plans.specs.Plans.{refusedPlan, planAnswer}
+use Rattle.plans.proofs.Trips.{judged-place, in-turn, answer-made}
 use Rattle.host.specs.Host.{mostPlace, codeOf, boundOf, boundIn, planCode, planBound}
 
 -- ---- places
-decided-place : (lmin lmax : ℕ) (row : Row) (v : Verdict) → decidedBy lmin lmax row v .place ≡ 0
-unfolding decidedBy acceptedPlan refusedPlan
-decided-place lmin lmax row v = go (acceptedBy (v .cause))
-  where
-    go : (p : Bool) → cond p (acceptedPlan lmin lmax row (v .figures)) (refusedPlan (v .cause) 0) .place ≡ 0
-    go true = refl
-    go false = refl
-
-module _ (b : List ℕ) where
-  pub answer-place : planAnswer b .place ≤ mostPlace
-  unfolding planAnswer answerTo setAnswer refusedPlan
-  answer-place = go (acceptedBy (r .cause))
-    where
-      r : Reading
-      r = readPlan b
-
-      go : (p : Bool) → cond p (setAnswer (r .lmin) (r .lmax) (r .row)) (refusedPlan (r .cause) (r .place)) .place ≤ mostPlace
-      go true = omega (arith, decided-place (r .lmin) (r .lmax) (r .row) (verdictOf (r .lmin) (r .lmax) (r .row)))
-      go false = place-inside b .1
+pub answer-place : (b : List ℕ) → planAnswer b .place ≤ mostPlace
+unfolding refusedPlan
+answer-place b =
+    in-turn b
+    (λ h e. subst (λ (a : Answer). a .place ≤ mostPlace) (sym e) (omega (arith, judged-place (readPlan b .set))))
+    (λ never e. subst (λ (a : Answer). a .place ≤ mostPlace) (sym e) (place-inside b .place .1))
 
 pub place-fits : (b : List ℕ) (a : Answer) → a ≡ planAnswer b → a .place ≤ mostPlace
 place-fits b a e = subst (λ (q : Answer). q .place ≤ mostPlace) (sym e) (answer-place b)

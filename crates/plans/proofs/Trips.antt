@@ -118,8 +118,8 @@ module _ (b : List ℕ) where
   abbrev s : FlowSet
   s = readPlan b .set
 
-  -- by whether the records are read
-  in-turn : {A : Type 0} → (readPlan b .outcome ≡ Read → planAnswer b ≡ setAnswer s → A) →
+  -- The two in turn: by whether the records are read
+  pub in-turn : {A : Type 0} → (readPlan b .outcome ≡ Read → planAnswer b ≡ setAnswer s → A) →
       ((readPlan b .outcome ≡ Read → ⊥) → planAnswer b ≡ refusedPlan (causeIn (readPlan b .outcome)) (placeIn (readPlan b .outcome)) → A) → A
   unfolding planAnswer answerAs
   in-turn {A} is-read is-refused = go (readPlan b .outcome) refl refl
