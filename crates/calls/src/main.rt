@@ -1,9 +1,12 @@
-// Answers the calls on standard input: Lmin and Lmax, then A, W, Q, T, P, B or N and what belongs to it, one after the other.
-// After P the table is the one that the written plan gives when it is read.
+// Answers the calls on standard input: Lmin and Lmax, then A, W, Q, T, P, B, L, S, J or N and what belongs to it, one after the other.
+// After P the table is the one that the written plan gives when it is read and judged.
 use flows::Answer;
 use flows::Asked;
 use flows::Table;
 use libc::STDIN_FILENO;
+use plan::FlowSet;
+use plan::Outcome;
+use plan::Reading;
 use plan::Written;
 ghost use Prim.Native.Nat.{_<_, _≤_};
 ghost use lib.ListN.{length};
@@ -13,29 +16,21 @@ const LENT: usize = 900;
 
 const UNTOUCHED: u8 = 0xa5;
 
-// The table after a call, and whether calls go on.
-struct Turn {
+// What is kept between calls, and whether there are more.
+struct Kept {
     more: bool,
     table: Table,
+    set: FlowSet,
 }
 
 // Of an unknown call, one that the input's end cuts short, or a buffer of more than LENT bytes.
-fn stop(t: Table) -> Turn {
+fn stop(mut kept: Kept) -> Kept {
     show::put(b"bad call\n");
-    Turn {
-        more: false,
-        table: t,
-    }
+    kept.more = false;
+    kept
 }
 
-fn go_on(t: Table) -> Turn {
-    Turn {
-        more: true,
-        table: t,
-    }
-}
-
-fn tell(answer: Answer, done: &[u8]) -> Turn {
+fn tell(mut kept: Kept, answer: Answer, done: &[u8]) -> Kept {
     let cause = answer.cause;
     if flows::accepted(cause) {
         show::put(done);
@@ -43,52 +38,57 @@ fn tell(answer: Answer, done: &[u8]) -> Turn {
         show::print_refusal(flows::refuse(cause, answer.place));
     }
     let table = answer.table;
-    go_on(table)
+    kept.table = table;
+    kept
 }
 
-fn make_table(t: Table) -> Turn {
+fn make_table(kept: Kept) -> Kept {
     let mut body = [0u8; 4];
     if io::read_full(STDIN_FILENO, &mut body) < 4 {
-        return stop(t);
+        return stop(kept);
     }
     let links = records::read_links(&body);
-    tell(table::fresh(links.lmin, links.lmax), b"fresh\n")
+    tell(kept, table::fresh(links.lmin, links.lmax), b"fresh\n")
 }
 
-fn admit_flow(t: Table) -> Turn {
+fn admit_flow(kept: Kept) -> Kept {
     let mut body = [0u8; 33];
     if io::read_full(STDIN_FILENO, &mut body) < 33 {
-        return stop(t);
+        return stop(kept);
     }
     let f = records::read_flow(&body);
-    tell(table::admit(t, f), b"admitted\n")
+    let t = kept.table;
+    tell(kept, table::admit(t, f), b"admitted\n")
 }
 
-fn withdraw_flow(t: Table) -> Turn {
+fn withdraw_flow(kept: Kept) -> Kept {
     let mut body = [0u8; 1];
     if io::read_full(STDIN_FILENO, &mut body) < 1 {
-        return stop(t);
+        return stop(kept);
     }
-    tell(table::withdraw(t, body[0]), b"withdrawn\n")
+    let t = kept.table;
+    tell(kept, table::withdraw(t, body[0]), b"withdrawn\n")
 }
 
-fn ask_flow(t: Table) -> Turn {
+fn ask_flow(kept: Kept) -> Kept {
     let mut body = [0u8; 1];
     if io::read_full(STDIN_FILENO, &mut body) < 1 {
-        return stop(t);
+        return stop(kept);
     }
     let number = body[0];
+    let t = kept.table;
     let asked = table::ask(t, number);
     match asked {
         Asked::Given(g) => show::print_flow(number, g),
         Asked::Refused(r) => show::print_refusal(r),
     }
-    go_on(t)
+    kept
 }
 
-fn print_table(t: Table) -> Turn {
+fn print_table(kept: Kept) -> Kept {
+    let t = kept.table;
     show::print_table(t);
-    go_on(t)
+    kept
 }
 
 // A figure from 0 to f.
@@ -116,22 +116,23 @@ fn print_bytes(bytes: &[u8], n: usize) {
 }
 
 // Prints the first n bytes, and goes on with the table of the plan in them.
-fn read_table(bytes: &[u8], n: usize) -> Turn
+fn read_table(kept: Kept, bytes: &[u8], n: usize) -> Kept
     requires { ⌜ n ≤ length (now bytes) ⌝ }
 {
     print_bytes(bytes, n);
-    tell(plans::read_plan(&bytes[..n]), b"")
+    tell(kept, plans::read_plan(&bytes[..n]), b"")
 }
 
 // 550 bytes hold any table.
-fn write_table(t: Table) -> Turn {
+fn write_table(kept: Kept) -> Kept {
     let mut buffer = [0u8; 550];
+    let t = kept.table;
     let written = plans::write_plan(&mut buffer, t);
     match written {
-        Written::Length(n) => read_table(&buffer, n),
+        Written::Length(n) => read_table(kept, &buffer, n),
         Written::Refused(r) => {
             show::print_refusal(r);
-            go_on(t)
+            kept
         }
     }
 }
@@ -146,57 +147,121 @@ fn write_into(bytes: &mut [u8], t: Table) {
     print_bytes(bytes, bytes.len());
 }
 
-fn join(high: u8, low: u8) -> usize {
+fn join(high: u8, low: u8) -> usize
+    ensures { λ r. ⌜ r < 65536 ⌝ }
+{
     (high as usize) * 256 + (low as usize)
 }
 
-fn lend_buffer(t: Table) -> Turn {
+fn lend_buffer(kept: Kept) -> Kept {
     let mut body = [0u8; 2];
     if io::read_full(STDIN_FILENO, &mut body) < 2 {
-        return stop(t);
+        return stop(kept);
     }
     let n = join(body[0], body[1]);
     if n > LENT {
-        return stop(t);
+        return stop(kept);
     }
     let mut buffer = [UNTOUCHED; LENT];
+    let t = kept.table;
     write_into(&mut buffer[..n], t);
-    go_on(t)
+    kept
 }
 
-fn call(kind: u8, t: Table) -> Turn {
+fn print_reading(reading: Reading) {
+    let outcome = reading.outcome;
+    let Outcome::Read = outcome else {
+        show::print_refusal(flows::refuse(plan::cause_in(outcome), plan::place_in(outcome)));
+        return;
+    };
+    let set = reading.set;
+    let row = set.row;
+    show::put(b"read ");
+    show::print_length(row::size(row));
+}
+
+// Reads as many bytes as this memory has, and the set that they list.
+fn read_set(mut kept: Kept, bytes: &mut [u8]) -> Kept {
+    if io::read_full(STDIN_FILENO, bytes) < bytes.len() {
+        return stop(kept);
+    }
+    let reading = plan::read(bytes);
+    print_reading(reading);
+    let set = reading.set;
+    kept.set = set;
+    kept
+}
+
+fn load_set(kept: Kept) -> Kept {
+    let mut body = [0u8; 2];
+    if io::read_full(STDIN_FILENO, &mut body) < 2 {
+        return stop(kept);
+    }
+    let n = join(body[0], body[1]);
+    let mut buffer = io::large_buffer();
+    read_set(kept, &mut buffer[0..n])
+}
+
+fn write_set(kept: Kept) -> Kept {
+    let mut buffer = [0u8; 550];
+    let set = kept.set;
+    let written = plan::write(&mut buffer, set);
+    match written {
+        Written::Length(n) => print_bytes(&buffer, n),
+        Written::Refused(r) => show::print_refusal(r),
+    }
+    kept
+}
+
+fn judge_set(kept: Kept) -> Kept {
+    let set = kept.set;
+    tell(kept, plans::judge_set(set), b"judged\n")
+}
+
+fn call(kind: u8, kept: Kept) -> Kept {
     match kind {
-        b'A' => admit_flow(t),
-        b'W' => withdraw_flow(t),
-        b'Q' => ask_flow(t),
-        b'T' => print_table(t),
-        b'P' => write_table(t),
-        b'B' => lend_buffer(t),
-        b'N' => make_table(t),
-        _ => stop(t),
+        b'A' => admit_flow(kept),
+        b'W' => withdraw_flow(kept),
+        b'Q' => ask_flow(kept),
+        b'T' => print_table(kept),
+        b'P' => write_table(kept),
+        b'B' => lend_buffer(kept),
+        b'L' => load_set(kept),
+        b'S' => write_set(kept),
+        b'J' => judge_set(kept),
+        b'N' => make_table(kept),
+        _ => stop(kept),
     }
 }
 
-fn next_call(t: Table) -> Turn {
+fn next_call(mut kept: Kept) -> Kept {
     let mut kind = [0u8; 1];
     if io::read_full(STDIN_FILENO, &mut kind) < 1 {
-        return Turn {
-            more: false,
-            table: t,
-        };
+        kept.more = false;
+        return kept;
     }
-    call(kind[0], t)
+    call(kind[0], kept)
+}
+
+// The set is the empty one that goes with a refused reading, here of no bytes.
+fn begin() -> Kept {
+    let fresh = table::fresh(0, 0);
+    let table = fresh.table;
+    let reading = plan::read(b"");
+    let set = reading.set;
+    Kept {
+        more: true,
+        table,
+        set,
+    }
 }
 
 // Nothing says that an input ends, so the turns are counted down from a number that no run uses up.
 fn main() {
-    let none = table::fresh(0, 0);
-    let table = none.table;
-    let mut turn = make_table(table);
+    let mut kept = make_table(begin());
     let mut turns = u64::MAX;
-    while turns > 0 && turn.more {
-        let t = turn.table;
-        turn = next_call(t);
+    while turns > 0 && kept.more {
+        kept = next_call(kept);
         turns -= 1;
     }
 }

@@ -98,8 +98,10 @@ module _ (b : List ℕ) (u : Bytes b) where
   read : PlanRead b (planAnswer b)
   read = record {
     accepted =
-        λ a. (accepted-place b (ap acceptedBy a),
-          λ old. writes-back (setOf t) (right-proper t (made-right t (answer-made b u))) old b (read-write-table b u (ap acceptedBy a)));
+        λ a. (
+          accepted-place b (ap acceptedBy a),
+          λ old. writes-back (setOf t) (right-proper t (made-right t (answer-made b u))) old b (read-write-table b u (ap acceptedBy a)),
+        );
     refused = λ never. subst Empty (sym (refused-table b (not-accepted (planAnswer b .cause) never))) none;
     sound = made-sound t (answer-made b u);
   }

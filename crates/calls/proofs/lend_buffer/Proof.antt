@@ -6,7 +6,6 @@ use Rattle.calls.proofs.lend_buffer.Statement.{statement}
 use Rattle.calls.proofs.lend_buffer.Tie as tie
 use Rattle.calls.proofs.lend_buffer.Reads as reads
 use Rattle.calls.proofs.lend_buffer.Lts as lts
-use Rattle.calls.proofs.go_on.Reads as go-on-reads
 use Rattle.calls.proofs.join.Reads as join-reads
 use Rattle.calls.proofs.stop.Reads as stop-reads
 use Rattle.calls.proofs.write_into.Reads as write-into-reads
@@ -48,9 +47,6 @@ slice-aggregate-write-into c = simp length-take (omega arith)
 write-into-requires : tie.Need-write-into-requires
 write-into-requires c κs = search needs
 
-go-on-requires : tie.Need-go-on-requires
-go-on-requires c κs = search needs
-
 returns-3 : tie.Need-returns-3
 returns-3 c = search needs
 
@@ -70,5 +66,4 @@ lend-buffer-spec =
     array-borrow-prefix-buffer
     slice-aggregate-write-into
     write-into-requires
-    go-on-requires
     returns-3)

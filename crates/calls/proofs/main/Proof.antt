@@ -4,18 +4,18 @@ use Rattle.calls.proofs.main.Statement.{statement}
 use Rattle.calls.proofs.main.Tie as tie
 use Rattle.calls.proofs.main.Reads as reads
 use Rattle.calls.proofs.main.Lts as lts
+use Rattle.calls.proofs.begin.Reads as begin-reads
 use Rattle.calls.proofs.make_table.Reads as make-table-reads
 use Rattle.calls.proofs.next_call.Reads as next-call-reads
-use Rattle.table.proofs.fresh.Reads as fresh-reads
 
 abbrev Inv-loop : tie.InvT-loop
-Inv-loop turn₀ turns₀ turn turns = Unit {0}
+Inv-loop kept₀ turns₀ kept turns = Unit {0}
 
 abbrev μ-loop : tie.MeasureT-loop
-μ-loop turn₀ turns₀ turn turns = turns
+μ-loop kept₀ turns₀ kept turns = turns
 
-fresh-requires : tie.Need-fresh-requires Inv-loop μ-loop
-fresh-requires c κs = search needs
+begin-requires : tie.Need-begin-requires Inv-loop μ-loop
+begin-requires c κs = search needs
 
 make-table-requires : tie.Need-make-table-requires Inv-loop μ-loop
 make-table-requires c κs = search needs
@@ -47,7 +47,7 @@ main-spec =
     (tie.spec
     Inv-loop
     μ-loop
-    fresh-requires
+    begin-requires
     make-table-requires
     loop-holds
     next-call-requires

@@ -13,7 +13,6 @@ use Rattle.calls.proofs.write_table.Statement.{statement}
 use Rattle.calls.proofs.write_table.Tie as tie
 use Rattle.calls.proofs.write_table.Reads as reads
 use Rattle.calls.proofs.write_table.Lts as lts
-use Rattle.calls.proofs.go_on.Reads as go-on-reads
 use Rattle.calls.proofs.read_table.Reads as read-table-reads
 use Rattle.plans.proofs.write_plan.Reads as write-plan-reads
 use Rattle.show.proofs.print_refusal.Reads as print-refusal-reads
@@ -48,9 +47,6 @@ enum-known-written-2 c = search needs
 print-refusal-requires : tie.Need-print-refusal-requires
 print-refusal-requires c κs = search needs
 
-go-on-requires : tie.Need-go-on-requires
-go-on-requires c κs = search needs
-
 returns : tie.Need-returns
 returns c = search needs
 
@@ -68,6 +64,5 @@ write-table-spec =
     read-table-requires
     enum-known-written-2
     print-refusal-requires
-    go-on-requires
     returns
     returns-2)
