@@ -1,6 +1,6 @@
 //! Makes sequences of calls.
 
-use crate::calls::{Call, LONGEST};
+use crate::calls::{Call, Kept, LONGEST};
 use crate::damage::{light, node_twice, out_of_range};
 use crate::deadlines::{fit, FITS};
 use crate::dice::Dice;
@@ -8,11 +8,11 @@ use crate::flow::{Flow, Links, FLOWS};
 use crate::sets::{self, Recipe, CHEAP};
 use crate::table::Table;
 
-/// The bytes so far and the table that the calls so far lead to.
+/// The bytes so far and what the calls so far lead to.
 struct Stream {
     bytes: Vec<u8>,
     calls: usize,
-    table: Table,
+    kept: Kept,
     /// Admissions that would make a round dear are left out.
     careful: bool,
     dice: Dice,
@@ -36,11 +36,14 @@ enum Session {
 pub fn make(count: usize, seed: u64) -> Vec<u8> {
     let mut dice = Dice::new(seed);
     let links = sets::links(&mut dice, 9);
-    let (table, _) = Table::fresh(links);
+    let table = Table::fresh(links).expect("delays in range");
     let mut stream = Stream {
         bytes: links.bytes(),
         calls: 0,
-        table,
+        kept: Kept {
+            table,
+            ..Kept::default()
+        },
         careful: false,
         dice,
     };
@@ -104,7 +107,12 @@ impl Stream {
     fn call(&mut self, call: Call) {
         self.bytes.extend(call.bytes());
         self.calls += 1;
-        call.make(&mut self.table);
+        call.make(&mut self.kept);
+    }
+
+    /// Those of the table.
+    fn flows(&self) -> &[Flow] {
+        &self.kept.table.set().flows
     }
 
     fn admit(&mut self, flow: &Flow) {
@@ -114,7 +122,7 @@ impl Stream {
     }
 
     fn dear_with(&self, flow: &Flow) -> bool {
-        let mut set = self.table.set().clone();
+        let mut set = self.kept.table.set().clone();
         set.flows.push(flow.clone());
         sets::dear(&set)
     }
@@ -176,7 +184,7 @@ impl Stream {
 
     /// A buffer that is too short, just long enough, or longer.
     fn lend(&mut self) {
-        let length = self.table.length();
+        let length = self.kept.table.length();
         let lent = match self.dice.pick(0, 9) {
             0 => 0,
             1 | 2 => length - 1,
@@ -196,7 +204,7 @@ impl Stream {
 
     /// A call on the number of a flow in the table, if it has one.
     fn present(&mut self, call: fn(i64) -> Call) {
-        let numbers: Vec<i64> = self.table.set().flows.iter().map(|f| f.number).collect();
+        let numbers: Vec<i64> = self.flows().iter().map(|f| f.number).collect();
         if !numbers.is_empty() {
             let number = self.dice.one_of(&numbers);
             self.call(call(number));
@@ -299,7 +307,7 @@ impl Stream {
         let mut numbers = self.dice.rising(FLOWS, 255);
         self.dice.shuffle(&mut numbers);
         for number in numbers {
-            if [0, 1, 2, 8].contains(&self.table.set().flows.len()) {
+            if [0, 1, 2, 8].contains(&self.flows().len()) {
                 self.every_buffer();
             }
             let flow = light(number, &mut self.dice);
@@ -310,7 +318,7 @@ impl Stream {
     }
 
     fn every_buffer(&mut self) {
-        let length = self.table.length();
+        let length = self.kept.table.length();
         for lent in [0, 1, length - 1, length, length + 1, LONGEST] {
             self.call(Call::Lend(lent));
         }
@@ -326,9 +334,9 @@ mod tests {
     #[test]
     fn buffers_for_tables_of_no_flow_to_sixteen() {
         let mut lent = BTreeSet::new();
-        let whole = each(&make(2_000, 1), |call, _, table| {
+        let whole = each(&make(2_000, 1), |call, _, kept| {
             if let Call::Lend(length) = call {
-                lent.insert((*length, table.length()));
+                lent.insert((*length, kept.table.length()));
             }
             Ok(())
         });

@@ -5,6 +5,7 @@ use crate::flow::{BODY, FLOWS};
 use crate::frames;
 use crate::plan;
 use crate::refusal::Refusal;
+use crate::table::Table;
 use std::collections::BTreeMap;
 use std::io;
 
@@ -100,7 +101,7 @@ pub fn of_frames(input: &[u8]) -> Tally {
         ..Tally::default()
     };
     for bytes in frames::plans(input) {
-        match plan::judge(bytes) {
+        match Table::of_plan(bytes) {
             Ok(_) => tally.add(0, "accepted"),
             Err(refusal) => tally.add(refusal.number, &place_class(bytes, &refusal)),
         }
@@ -188,10 +189,10 @@ pub fn of_calls(input: &[u8]) -> io::Result<Tally> {
         ..Tally::default()
     };
     let mut after_plan = false;
-    let whole = calls::each(input, |call, answer, table| {
+    let whole = calls::each(input, |call, answer, kept| {
         let refused = refused(answer);
         let kind = match call {
-            Call::Lend(length) => room(*length, table.length()),
+            Call::Lend(length) => room(*length, kept.table.length()),
             _ => kind(call, refused.is_some()),
         };
         after_plan &= !matches!(call, Call::Fresh(_));
@@ -227,6 +228,9 @@ fn kind(call: &Call, refused: bool) -> &'static str {
         Call::Ask(_) => ("ask", "asked"),
         Call::Print => ("print", "printed"),
         Call::Write | Call::Lend(_) => ("write", "written"),
+        Call::Read(_) => ("read", "read"),
+        Call::WriteSet => ("write set", "set written"),
+        Call::Judge => ("judge", "judged"),
     };
     if refused {
         asked
@@ -274,7 +278,7 @@ mod tests {
 
     #[test]
     fn ways_of_12() {
-        let class = |plan: &[u8]| place_class(plan, &plan::judge(plan).unwrap_err());
+        let class = |plan: &[u8]| place_class(plan, &plan::read(plan).unwrap_err());
         assert_eq!(class(&[]), "links, none left");
         assert_eq!(class(&[2]), "links, wrong place");
         assert_eq!(class(&[1, 0]), "links, short body");
