@@ -48,7 +48,7 @@ mod tests {
         };
         let flows = vec![flow(1, period, period - 1), flow(2, HORIZON, rare)];
         Set {
-            links: Links::ZERO,
+            links: Links::default(),
             flows,
         }
     }

@@ -1,8 +1,11 @@
-//! Sequences of calls on a table, as bytes, and the answers as lines.
+//! Sequences of calls on a table and a set, as bytes, and the answers as lines.
 
 use crate::flow::{push_two, two, Links, Record, BODY};
-use crate::plan::{accepted_text, line};
+use crate::frames;
+use crate::judge::{line, table_text};
+use crate::plan;
 use crate::refusal::Refusal;
+use crate::set::Set;
 use crate::table::Table;
 use std::io::{self, Write};
 
@@ -16,6 +19,17 @@ pub enum Call {
     Write,
     /// Write into a buffer of so many bytes.
     Lend(usize),
+    /// Read these bytes as a plan.
+    Read(Vec<u8>),
+    WriteSet,
+    Judge,
+}
+
+/// What the calls are made on. RULES, programs.
+#[derive(Clone, Debug, Default, PartialEq, Eq)]
+pub struct Kept {
+    pub table: Table,
+    pub set: Set,
 }
 
 /// The longest buffer that a call may ask for.
@@ -35,12 +49,19 @@ fn parse(input: &[u8]) -> Option<(Call, usize)> {
         b'T' => Some((Call::Print, 1)),
         b'P' => Some((Call::Write, 1)),
         b'B' => Some((lend(two(body(2)?, 0) as usize)?, 3)),
+        b'L' => Some(read(frames::first(&input[1..])?)),
+        b'S' => Some((Call::WriteSet, 1)),
+        b'J' => Some((Call::Judge, 1)),
         _ => None,
     }
 }
 
 fn lend(length: usize) -> Option<Call> {
     (length <= LONGEST).then_some(Call::Lend(length))
+}
+
+fn read(plan: &[u8]) -> (Call, usize) {
+    (Call::Read(plan.to_vec()), 3 + plan.len())
 }
 
 impl Call {
@@ -57,45 +78,69 @@ impl Call {
                 push_two(&mut out, *length as i64);
                 out
             }
+            Call::Read(plan) => {
+                let mut out = vec![b'L'];
+                frames::push(&mut out, plan);
+                out
+            }
+            Call::WriteSet => vec![b'S'],
+            Call::Judge => vec![b'J'],
         }
     }
 
     /// Makes the call and gives the text of its answer.
-    pub fn make(&self, table: &mut Table) -> String {
+    pub fn make(&self, kept: &mut Kept) -> String {
+        let Kept { table, set } = kept;
         match self {
-            Call::Fresh(links) => {
-                let (fresh, refusal) = Table::fresh(*links);
-                *table = fresh;
-                refusal.map_or(String::from("fresh\n"), |r| format!("{r}\n"))
-            }
-            Call::Admit(record) => said(table.admit(record), |_| String::from("admitted\n")),
-            Call::Withdraw(number) => {
-                said(table.withdraw(*number), |_| String::from("withdrawn\n"))
-            }
+            Call::Fresh(links) => put(table, Table::fresh(*links), |_| word("fresh")),
+            Call::Admit(record) => said(table.admit(record), |_| word("admitted")),
+            Call::Withdraw(number) => said(table.withdraw(*number), |_| word("withdrawn")),
             Call::Ask(number) => said(table.ask(*number), |figures| line(&figures)),
-            Call::Print => accepted_text(table.figures()),
+            Call::Print => table_text(table),
             Call::Write => written(table),
             Call::Lend(length) => lent(table, *length),
+            Call::Read(plan) => put(set, plan::read(plan), |set| {
+                format!("read {}\n", set.flows.len())
+            }),
+            Call::WriteSet => hexadecimal(&plan::write(set)),
+            Call::Judge => put(table, Table::judge(set), |_| word("judged")),
         }
     }
 }
 
-fn said<T>(answer: Result<T, Refusal>, text: impl Fn(T) -> String) -> String {
+fn word(word: &str) -> String {
+    format!("{word}\n")
+}
+
+fn said<T>(answer: Result<T, Refusal>, text: impl FnOnce(T) -> String) -> String {
     match answer {
         Ok(value) => text(value),
         Err(refusal) => format!("{refusal}\n"),
     }
 }
 
-/// The plan's bytes in hexadecimal, out of a buffer of just their length. The
-/// calls go on with the table that they give when they are read.
+/// A table or set is put in the place of the one before; if it is refused, the
+/// empty one is. RULES, tables.
+fn put<T: Default>(
+    place: &mut T,
+    answer: Result<T, Refusal>,
+    text: impl FnOnce(&T) -> String,
+) -> String {
+    *place = T::default();
+    said(answer, |value| {
+        *place = value;
+        text(place)
+    })
+}
+
+/// The plan's bytes in hexadecimal. The calls go on with the table that they
+/// give when they are read and judged.
 fn written(table: &mut Table) -> String {
-    let mut buffer = vec![0; table.length()];
-    let answer = table.write(&mut buffer);
-    let again = Table::of_plan(&buffer).expect("the plan of a table is accepted");
+    let bytes = plan::write(table.set());
+    let again = Table::of_plan(&bytes).expect("the plan of a table is accepted");
     assert_eq!(again, *table, "the plan of a table gives it back");
     *table = again;
-    said(answer, |_| hexadecimal(&buffer))
+    hexadecimal(&bytes)
 }
 
 /// The length that was written or the refusal, then the whole buffer.
@@ -111,26 +156,26 @@ fn hexadecimal(bytes: &[u8]) -> String {
     format!("{digits}\n")
 }
 
-/// Hands each call on, with its answer and the table after it, beginning with
+/// Hands each call on, with its answer and what is kept after it, beginning with
 /// the table made from the first four bytes. False: a bad call ended them.
 pub fn each(
     input: &[u8],
-    mut see: impl FnMut(&Call, &str, &Table) -> io::Result<()>,
+    mut see: impl FnMut(&Call, &str, &Kept) -> io::Result<()>,
 ) -> io::Result<bool> {
     let Some(links) = input.get(..4) else {
         return Ok(false);
     };
-    let (mut table, _) = Table::fresh(Links::ZERO);
+    let mut kept = Kept::default();
     let first = Call::Fresh(Links::from_bytes(links));
-    let answer = first.make(&mut table);
-    see(&first, &answer, &table)?;
+    let answer = first.make(&mut kept);
+    see(&first, &answer, &kept)?;
     let mut rest = &input[4..];
     while !rest.is_empty() {
         let Some((call, length)) = parse(rest) else {
             return Ok(false);
         };
-        let answer = call.make(&mut table);
-        see(&call, &answer, &table)?;
+        let answer = call.make(&mut kept);
+        see(&call, &answer, &kept)?;
         rest = &rest[length..];
     }
     Ok(true)
@@ -172,6 +217,18 @@ mod tests {
         let mut out = vec![0, 1, 0, 1];
         calls.iter().for_each(|c| out.extend(c.bytes()));
         out
+    }
+
+    /// Case 4, flow 2 with this deadline. RULES, cases.
+    fn case_4(deadline: i64) -> Vec<u8> {
+        let second = Flow {
+            deadline,
+            ..flow(2, 1, 5, 20)
+        };
+        plan::write(&Set {
+            links: Links { least: 1, most: 1 },
+            flows: vec![flow(1, 2, 3, 10), second],
+        })
     }
 
     #[test]
@@ -256,6 +313,87 @@ mod tests {
         assert_eq!(lines, wanted);
     }
 
+    const CASE_4: &str = "flow bound jitter busy\n1 7 4 3\n2 8 3 8\n";
+
+    #[test]
+    fn before_a_reading_the_set_is_empty_with_delays_0() {
+        let calls = [Call::WriteSet, Call::Judge, Call::Write, Call::Print];
+        let text = "fresh\n01000000007f\njudged\n01000000007f\nflow bound jitter busy\n";
+        assert_eq!(answers(&stream(&calls)), text);
+    }
+
+    #[test]
+    fn a_set_is_judged_again() {
+        let calls = [
+            Call::Read(case_4(60)),
+            Call::Judge,
+            Call::Print,
+            Call::Withdraw(1),
+            Call::Ask(2),
+            Call::Judge,
+            Call::Print,
+        ];
+        let text = format!("fresh\nread 2\njudged\n{CASE_4}withdrawn\n2 5 0 5\njudged\n{CASE_4}");
+        assert_eq!(answers(&stream(&calls)), text);
+    }
+
+    #[test]
+    fn a_set_that_judging_refuses_is_kept() {
+        let calls = [
+            Call::Read(case_4(7)),
+            Call::Judge,
+            Call::Write,
+            Call::Fresh(Links { least: 2, most: 3 }),
+            Call::Admit(flow(9, 0, 1, 10).record()),
+            Call::WriteSet,
+            Call::Judge,
+        ];
+        let set = hexadecimal(&case_4(7));
+        let text = format!(
+            "fresh\nread 2\nrefused 10 flow 2 at 0\n01000000007f\nfresh\nadmitted\n{set}\
+             refused 10 flow 2 at 0\n"
+        );
+        assert_eq!(answers(&stream(&calls)), text);
+    }
+
+    #[test]
+    fn a_refused_reading_leaves_the_empty_set() {
+        let mut long = case_4(60);
+        long.resize(65_535, 0);
+        for (plan, answer) in [
+            (&long[..], "refused 12 flow 0 at 74\n"),
+            (&long[..73], "refused 12 flow 0 at 73\n"),
+            (&[], "refused 12 flow 0 at 0\n"),
+        ] {
+            let calls = [
+                Call::Read(case_4(60)),
+                Call::Read(plan.to_vec()),
+                Call::WriteSet,
+                Call::Judge,
+            ];
+            let text = format!("fresh\nread 2\n{answer}01000000007f\njudged\n");
+            assert_eq!(answers(&stream(&calls)), text);
+        }
+    }
+
+    #[test]
+    fn reading_and_writing_the_set_leave_the_table() {
+        let calls = [
+            Call::Read(case_4(60)),
+            Call::Judge,
+            Call::Read(case_4(7)),
+            Call::WriteSet,
+            Call::Read(vec![]),
+            Call::WriteSet,
+            Call::Print,
+        ];
+        let set = hexadecimal(&case_4(7));
+        let text = format!(
+            "fresh\nread 2\njudged\nread 2\n{set}refused 12 flow 0 at 0\n01000000007f\n{CASE_4}"
+        );
+        assert_eq!(answers(&stream(&calls)), text);
+    }
+
     #[test]
     fn bad_calls_end_the_answers() {
         assert_eq!(answers(&[]), "bad call\n");
@@ -269,9 +407,16 @@ mod tests {
         // 901 bytes, and 65,535.
         assert_eq!(answers(&[0, 1, 0, 1, b'B', 3, 133]), "fresh\nbad call\n");
         assert_eq!(answers(&[0, 1, 0, 1, b'B', 255, 255]), "fresh\nbad call\n");
-        let mut cut = stream(&[Call::Admit(flow(1, 1, 1, 10).record())]);
-        cut.pop();
-        assert_eq!(answers(&cut), "fresh\nbad call\n");
+        assert_eq!(answers(&[0, 1, 0, 1, b'L', 0]), "fresh\nbad call\n");
+        assert_eq!(answers(&[0, 1, 0, 1, b'L', 255, 255]), "fresh\nbad call\n");
+        for call in [
+            Call::Admit(flow(1, 1, 1, 10).record()),
+            Call::Read(case_4(60)),
+        ] {
+            let mut cut = stream(&[call]);
+            cut.pop();
+            assert_eq!(answers(&cut), "fresh\nbad call\n");
+        }
     }
 
     #[test]
@@ -288,6 +433,11 @@ mod tests {
             Call::Write,
             Call::Lend(0),
             Call::Lend(LONGEST),
+            Call::Read(vec![]),
+            Call::Read(case_4(60)),
+            Call::Read(vec![b'J'; 65_535]),
+            Call::WriteSet,
+            Call::Judge,
         ];
         for call in calls {
             let bytes = call.bytes();

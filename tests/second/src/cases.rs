@@ -3,6 +3,7 @@
 //! program that is being checked.
 
 use crate::flow::{Flow, Links};
+use crate::judge;
 use crate::plan;
 use crate::refusal::Refusal;
 use crate::set::Set;
@@ -53,7 +54,8 @@ impl Findings {
             })
             .collect();
         let set = set(flows);
-        self.same(name, plan::judge(&plan::write(&set)), Ok(rows.clone()));
+        self.comes_back(name, &set);
+        self.same(name, planned(&set), Ok(rows.clone()));
         self.same(name, judge_set(&set), Ok(rows.clone()));
         self.same(
             name,
@@ -66,12 +68,19 @@ impl Findings {
     fn refused(&mut self, name: &str, flows: &[Flow], number: i64, flow: i64) {
         let wanted = Refusal::of_flow(number, flow);
         let set = set(flows);
-        self.same(name, plan::judge(&plan::write(&set)), Err(wanted));
+        self.comes_back(name, &set);
+        self.same(name, planned(&set), Err(wanted));
         let (last, older) = flows.split_last().expect("a case has a flow");
         let mut table = admitted(older.iter());
         let before = table.clone();
         self.same(name, table.admit(&last.record()), Err(wanted));
         self.same(name, table, before);
+    }
+
+    /// Whatever judging says of it. RULES, demands.
+    fn comes_back(&mut self, name: &str, set: &Set) {
+        let read = plan::read(&plan::write(set));
+        self.same(name, read, Ok(set.clone()));
     }
 }
 
@@ -116,10 +125,16 @@ fn set(flows: &[Flow]) -> Set {
     }
 }
 
+/// What a set gives by way of its plan.
+fn planned(set: &Set) -> Result<Vec<Figures>, Refusal> {
+    let table = Table::of_plan(&plan::write(set))?;
+    Ok(table.figures().to_vec())
+}
+
 /// A table after admissions; a refused one leaves its flow out, which shows in
 /// the figures.
 fn admitted<'a>(flows: impl Iterator<Item = &'a Flow>) -> Table {
-    let (mut table, _) = Table::fresh(LINKS);
+    let mut table = Table::fresh(LINKS).expect("delays in range");
     for flow in flows {
         let _ = table.admit(&flow.record());
     }
@@ -186,14 +201,14 @@ fn case_1(out: &mut Findings) {
     out.same("case 1", bytes.clone(), vec![0x01, 0, 1, 0, 1, 0x7F]);
     out.same(
         "case 1",
-        plan::judge_text(&bytes),
+        judge::text(&bytes),
         String::from("flow bound jitter busy\n"),
     );
 }
 
 /// What `judge` prints, to the last byte. RULES, programs.
 fn case_4_text(out: &mut Findings) {
-    let text = plan::judge_text(&plan::write(&set(&case_4())));
+    let text = judge::text(&plan::write(&set(&case_4())));
     out.same(
         "case 4, text",
         text,
@@ -282,7 +297,7 @@ fn exchanged(out: &mut Findings) {
     );
     out.unlike("exchanged", bounds(&case_5()), vec![17, 14]);
     let broken = plan::write(&set(&[first, exchange(&second)]));
-    out.same("exchanged", plan::judge(&broken), Err(Refusal::at(3, 39)));
+    out.same("exchanged", plan::read(&broken), Err(Refusal::at(3, 39)));
 }
 
 fn older_figures(out: &mut Findings) {
@@ -343,6 +358,7 @@ mod tests {
     fn a_difference_is_reported() {
         let mut out = Findings::default();
         out.figures("wrong", &case_3(), &[(8, 5, 8), (8, 3, 9)]);
-        assert_eq!(out.differences.len(), out.checks);
+        // All but the reading back of the set.
+        assert_eq!(out.differences.len() + 1, out.checks);
     }
 }

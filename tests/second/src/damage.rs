@@ -119,6 +119,13 @@ pub fn make(damage: Damage, dice: &mut Dice) -> Vec<u8> {
     records.concat()
 }
 
+/// A plan, and behind its end bytes up to this length.
+pub fn overlong(length: usize, dice: &mut Dice) -> Vec<u8> {
+    let mut bytes = plan::write(&base(dice));
+    bytes.resize_with(length, || dice.pick(0, 255) as u8);
+    bytes
+}
+
 /// A set of at least two flows.
 fn base(dice: &mut Dice) -> Set {
     let set = sets::make(Recipe::Small, dice);

@@ -11,15 +11,13 @@ pub const FLOWS: usize = 16;
 /// Body of a kind 02 record.
 pub const BODY: usize = 33;
 
-#[derive(Clone, Copy, Debug, PartialEq, Eq)]
+#[derive(Clone, Copy, Debug, Default, PartialEq, Eq)]
 pub struct Links {
     pub least: i64,
     pub most: i64,
 }
 
 impl Links {
-    pub const ZERO: Links = Links { least: 0, most: 0 };
-
     /// Lmin and Lmax from four bytes.
     pub fn from_bytes(body: &[u8]) -> Links {
         Links {

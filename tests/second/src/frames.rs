@@ -1,19 +1,21 @@
 //! A corpus of plans: for each, its length in two bytes, then its bytes.
 
 use crate::flow::{push_two, two};
-use crate::plan;
+use crate::judge;
 use std::io::{self, Write};
+
+/// The plan at the start, after its length; None if it is cut short.
+pub fn first(input: &[u8]) -> Option<&[u8]> {
+    let length = two(input.get(..2)?, 0) as usize;
+    input.get(2..2 + length)
+}
 
 /// The plans of a corpus. What is left of a frame cut short is no plan.
 pub fn plans(mut input: &[u8]) -> Vec<&[u8]> {
     let mut out = Vec::new();
-    while input.len() >= 2 {
-        let end = 2 + two(input, 0) as usize;
-        if input.len() < end {
-            break;
-        }
-        out.push(&input[2..end]);
-        input = &input[end..];
+    while let Some(plan) = first(input) {
+        out.push(plan);
+        input = &input[2 + plan.len()..];
     }
     out
 }
@@ -21,7 +23,7 @@ pub fn plans(mut input: &[u8]) -> Vec<&[u8]> {
 /// For each plan, what `judge` prints, then a line with a single dot.
 pub fn judge_all(input: &[u8], out: &mut dyn Write) -> io::Result<()> {
     for bytes in plans(input) {
-        writeln!(out, "{}.", plan::judge_text(bytes))?;
+        writeln!(out, "{}.", judge::text(bytes))?;
     }
     Ok(())
 }

@@ -14,6 +14,7 @@ pub mod flow;
 pub mod frames;
 pub mod fronts;
 pub mod horizon;
+pub mod judge;
 pub mod make_calls;
 pub mod make_frames;
 pub mod paths;

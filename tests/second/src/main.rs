@@ -1,6 +1,6 @@
 //! The command line.
 
-use second::{calls, cases, frames, make_calls, make_frames, plan, report};
+use second::{calls, cases, frames, judge, make_calls, make_frames, report};
 use std::io::{self, BufWriter, Read, Write};
 use std::process::ExitCode;
 
@@ -18,7 +18,7 @@ fn main() -> io::Result<ExitCode> {
     let args: Vec<String> = std::env::args().skip(1).collect();
     let words: Vec<&str> = args.iter().map(String::as_str).collect();
     match words[..] {
-        ["judge"] => put(plan::judge_text(&input()?).as_bytes()),
+        ["judge"] => put(judge::text(&input()?).as_bytes()),
         ["frames"] => stream(|bytes, out| frames::judge_all(bytes, out)),
         ["calls"] => stream(|bytes, out| calls::answer_all(bytes, out)),
         ["make-frames", count, seed] => made_frames(count, seed),

@@ -1,18 +1,21 @@
 //! Makes sequences of calls.
 
-use crate::calls::{Call, LONGEST};
-use crate::damage::{light, node_twice, out_of_range};
-use crate::deadlines::{fit, FITS};
+use crate::calls::{Call, Kept, LONGEST};
+use crate::damage::{self, light, node_twice, out_of_range};
+use crate::deadlines::{fit, Fit, FITS};
 use crate::dice::Dice;
 use crate::flow::{Flow, Links, FLOWS};
+use crate::make_frames::{plan_for, Job};
+use crate::plan;
+use crate::set::Set;
 use crate::sets::{self, Recipe, CHEAP};
 use crate::table::Table;
 
-/// The bytes so far and the table that the calls so far lead to.
+/// The bytes so far and what the calls so far lead to.
 struct Stream {
     bytes: Vec<u8>,
     calls: usize,
-    table: Table,
+    kept: Kept,
     /// Admissions that would make a round dear are left out.
     careful: bool,
     dice: Dice,
@@ -30,17 +33,28 @@ enum Session {
     BadLinks,
     /// Buffers of every kind, on tables of no flow to sixteen.
     Buffers,
+    /// The set that is kept before a plan is read, and after a plan of no bytes.
+    Unread,
+    /// A plan read, its set written and judged.
+    Plan(Job),
+    /// The same with bytes behind the plan, up to this length.
+    Overlong(usize),
+    /// Each call just after judging.
+    Judged,
 }
 
 /// At least `count` calls after the first table; the last session is finished.
 pub fn make(count: usize, seed: u64) -> Vec<u8> {
     let mut dice = Dice::new(seed);
     let links = sets::links(&mut dice, 9);
-    let (table, _) = Table::fresh(links);
+    let table = Table::fresh(links).expect("delays in range");
     let mut stream = Stream {
         bytes: links.bytes(),
         calls: 0,
-        table,
+        kept: Kept {
+            table,
+            ..Kept::default()
+        },
         careful: false,
         dice,
     };
@@ -63,32 +77,53 @@ fn roster() -> Vec<Session> {
         Session::Fields,
         Session::BadLinks,
         Session::Buffers,
+        Session::Overlong(65_535),
+        Session::Judged,
     ];
-    CHEAP
-        .iter()
-        .map(|r| Session::Grow(*r))
+    let fits = |r: &Recipe| [Fit::Loose, Fit::OneShort].map(|f| Job::Set(*r, f));
+    let damages = damage::ALL.iter().map(|d| Job::Damage(*d));
+    let plans = CHEAP.iter().flat_map(fits).chain(damages);
+    std::iter::once(Session::Unread)
+        .chain(CHEAP.iter().map(|r| Session::Grow(*r)))
         .chain(others)
+        .chain(plans.map(Session::Plan))
         .collect()
 }
 
 impl Stream {
     /// Shares in a hundred.
     fn any(&mut self) -> Session {
-        let recipe = match self.dice.pick(1, 100) {
-            1..=4 => return Session::Full,
-            5..=20 => return Session::Fields,
-            21..=25 => return Session::BadLinks,
-            26..=28 => self.dice.one_of(&CHEAP),
-            29..=42 => Recipe::Crowd,
-            43..=50 => Recipe::Back,
-            51..=60 => Recipe::Overload,
-            61..=70 => Recipe::Loose,
-            71..=76 => Recipe::LateBound,
-            77..=80 => Recipe::LateDrop,
-            81..=86 => Recipe::Jittery,
+        match self.dice.pick(1, 100) {
+            1..=3 => Session::Full,
+            4..=14 => Session::Fields,
+            15..=18 => Session::BadLinks,
+            19 => Session::Overlong(self.dice.pick(1_200, 2_000) as usize),
+            20..=60 => Session::Plan(self.job()),
+            _ => Session::Grow(self.recipe()),
+        }
+    }
+
+    fn job(&mut self) -> Job {
+        if self.dice.once_in(2) {
+            Job::Damage(self.dice.one_of(&damage::ALL))
+        } else {
+            Job::Set(self.recipe(), self.dice.one_of(&FITS))
+        }
+    }
+
+    /// Shares in a hundred.
+    fn recipe(&mut self) -> Recipe {
+        match self.dice.pick(1, 100) {
+            1..=4 => self.dice.one_of(&CHEAP),
+            5..=22 => Recipe::Crowd,
+            23..=33 => Recipe::Back,
+            34..=46 => Recipe::Overload,
+            47..=59 => Recipe::Loose,
+            60..=68 => Recipe::LateBound,
+            69..=74 => Recipe::LateDrop,
+            75..=82 => Recipe::Jittery,
             _ => Recipe::Small,
-        };
-        Session::Grow(recipe)
+        }
     }
 
     fn run(&mut self, session: Session) {
@@ -98,13 +133,22 @@ impl Stream {
             Session::Fields => self.fields(),
             Session::BadLinks => self.bad_links(),
             Session::Buffers => self.buffers(),
+            Session::Unread => self.unread(),
+            Session::Plan(job) => self.plan(job),
+            Session::Overlong(length) => self.overlong(length),
+            Session::Judged => self.judged(),
         }
     }
 
     fn call(&mut self, call: Call) {
         self.bytes.extend(call.bytes());
         self.calls += 1;
-        call.make(&mut self.table);
+        call.make(&mut self.kept);
+    }
+
+    /// Those of the table.
+    fn flows(&self) -> &[Flow] {
+        &self.kept.table.set().flows
     }
 
     fn admit(&mut self, flow: &Flow) {
@@ -114,7 +158,7 @@ impl Stream {
     }
 
     fn dear_with(&self, flow: &Flow) -> bool {
-        let mut set = self.table.set().clone();
+        let mut set = self.kept.table.set().clone();
         set.flows.push(flow.clone());
         sets::dear(&set)
     }
@@ -149,7 +193,19 @@ impl Stream {
                 self.call(Call::Write);
                 self.after_plan(flows);
             }
+            11 => self.beside(),
             _ => {}
+        }
+    }
+
+    /// A call on the set that leaves the table.
+    fn beside(&mut self) {
+        if self.dice.once_in(2) {
+            let job = self.job();
+            let plan = plan_for(job, &mut self.dice);
+            self.call(Call::Read(plan));
+        } else {
+            self.call(Call::WriteSet);
         }
     }
 
@@ -176,7 +232,7 @@ impl Stream {
 
     /// A buffer that is too short, just long enough, or longer.
     fn lend(&mut self) {
-        let length = self.table.length();
+        let length = self.kept.table.length();
         let lent = match self.dice.pick(0, 9) {
             0 => 0,
             1 | 2 => length - 1,
@@ -196,7 +252,7 @@ impl Stream {
 
     /// A call on the number of a flow in the table, if it has one.
     fn present(&mut self, call: fn(i64) -> Call) {
-        let numbers: Vec<i64> = self.table.set().flows.iter().map(|f| f.number).collect();
+        let numbers: Vec<i64> = self.flows().iter().map(|f| f.number).collect();
         if !numbers.is_empty() {
             let number = self.dice.one_of(&numbers);
             self.call(call(number));
@@ -209,7 +265,8 @@ impl Stream {
     }
 
     /// Sixteen light flows; a seventeenth, one with a number that is there, one
-    /// out of range; then withdrawn room is used again, also after a plan.
+    /// out of range; then withdrawn room is used again, also after a plan. At
+    /// last the plan of the full table.
     fn full(&mut self) {
         let links = sets::links(&mut self.dice, 5);
         self.call(Call::Fresh(links));
@@ -243,6 +300,95 @@ impl Stream {
         self.call(Call::Withdraw(numbers[1]));
         self.admit(&last);
         self.lend();
+        self.read_and_judge(plan::write(self.kept.table.set()));
+    }
+
+    fn unread(&mut self) {
+        self.call(Call::WriteSet);
+        let flow = light(9, &mut self.dice);
+        self.admit(&flow);
+        self.call(Call::WriteSet);
+        self.call(Call::Judge);
+        self.after_judging();
+        self.read_and_judge(Vec::new());
+    }
+
+    fn plan(&mut self, job: Job) {
+        if self.dice.once_in(2) {
+            let links = sets::links(&mut self.dice, 9);
+            self.call(Call::Fresh(links));
+        }
+        let plan = plan_for(job, &mut self.dice);
+        self.read_and_judge(plan);
+    }
+
+    fn overlong(&mut self, length: usize) {
+        let plan = damage::overlong(length, &mut self.dice);
+        self.read_and_judge(plan);
+    }
+
+    fn read_and_judge(&mut self, plan: Vec<u8>) {
+        self.call(Call::Read(plan));
+        match self.dice.pick(0, 3) {
+            0 | 1 => self.call(Call::WriteSet),
+            2 => self.call(Call::Print),
+            _ => {}
+        }
+        self.call(Call::Judge);
+        self.after_judging();
+    }
+
+    /// Calls on the table that judging gave and on the set, which is still there.
+    fn after_judging(&mut self) {
+        let mut flows = self.kept.set.flows.clone();
+        flows.push(light(self.dice.pick(1, 255), &mut self.dice));
+        // As in `grow`: a set may be cheap only by its refusal.
+        self.careful = true;
+        for _ in 0..self.dice.pick(1, 6) {
+            match self.dice.pick(0, 9) {
+                0 => self.call(Call::WriteSet),
+                1 | 2 => self.call(Call::Judge),
+                3 => self.admit(&flows[flows.len() - 1]),
+                _ => self.any_call(&flows),
+            }
+        }
+        self.careful = false;
+    }
+
+    /// A set that is accepted, then one that 10 refuses: no bound is less than
+    /// cost and jitter together.
+    fn judged(&mut self) {
+        let links = sets::links(&mut self.dice, 5);
+        let numbers = self.dice.rising(4, 255);
+        let light = |n: &i64| light(*n, &mut self.dice);
+        let mut flows: Vec<Flow> = numbers.iter().map(light).collect();
+        let extra = flows.remove(1);
+        let mut set = Set { links, flows };
+        self.each_call_judged(&set, &extra);
+        set.flows[2].jitter = 3;
+        set.flows[2].deadline = 3;
+        self.each_call_judged(&set, &extra);
+    }
+
+    fn each_call_judged(&mut self, set: &Set, extra: &Flow) {
+        self.call(Call::Read(plan::write(set)));
+        let there = set.flows[0].record();
+        for call in [
+            Call::Ask(there.number),
+            Call::Ask(0),
+            Call::Withdraw(there.number),
+            Call::Withdraw(0),
+            Call::Admit(there),
+            Call::Admit(extra.record()),
+            Call::Print,
+            Call::Write,
+            Call::WriteSet,
+        ] {
+            self.call(Call::Judge);
+            self.call(call);
+        }
+        self.call(Call::Judge);
+        self.every_buffer();
     }
 
     /// Flows with faults, beside flows that are there and with their numbers.
@@ -299,7 +445,7 @@ impl Stream {
         let mut numbers = self.dice.rising(FLOWS, 255);
         self.dice.shuffle(&mut numbers);
         for number in numbers {
-            if [0, 1, 2, 8].contains(&self.table.set().flows.len()) {
+            if [0, 1, 2, 8].contains(&self.flows().len()) {
                 self.every_buffer();
             }
             let flow = light(number, &mut self.dice);
@@ -310,7 +456,7 @@ impl Stream {
     }
 
     fn every_buffer(&mut self) {
-        let length = self.table.length();
+        let length = self.kept.table.length();
         for lent in [0, 1, length - 1, length, length + 1, LONGEST] {
             self.call(Call::Lend(lent));
         }
@@ -326,9 +472,9 @@ mod tests {
     #[test]
     fn buffers_for_tables_of_no_flow_to_sixteen() {
         let mut lent = BTreeSet::new();
-        let whole = each(&make(2_000, 1), |call, _, table| {
+        let whole = each(&make(2_000, 1), |call, _, kept| {
             if let Call::Lend(length) = call {
-                lent.insert((*length, table.length()));
+                lent.insert((*length, kept.table.length()));
             }
             Ok(())
         });
@@ -337,6 +483,22 @@ mod tests {
             let length = 6 + 34 * flows;
             let wanted = [0, length - 1, length, length + 1, LONGEST];
             assert!(wanted.iter().all(|n| lent.contains(&(*n, length))));
+        }
+    }
+
+    #[test]
+    fn plans_of_no_byte_to_the_most() {
+        let mut read = BTreeSet::new();
+        let whole = each(&make(2_000, 1), |call, _, _| {
+            if let Call::Read(plan) = call {
+                read.insert(plan.len());
+            }
+            Ok(())
+        });
+        assert!(whole.unwrap());
+        let longest = 6 + 34 * FLOWS;
+        for length in [0, 6, 40, longest, longest + 34, 65_535] {
+            assert!(read.contains(&length), "{length}");
         }
     }
 }

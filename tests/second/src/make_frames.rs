@@ -7,8 +7,9 @@ use crate::frames;
 use crate::plan;
 use crate::sets::{self, Recipe, CHEAP, DEAR};
 
+/// What a plan is made from.
 #[derive(Clone, Copy)]
-enum Job {
+pub enum Job {
     Set(Recipe, Fit),
     Damage(Damage),
 }
@@ -58,7 +59,7 @@ fn any(dice: &mut Dice) -> Job {
     Job::Set(recipe, dice.one_of(&FITS))
 }
 
-fn plan_for(job: Job, dice: &mut Dice) -> Vec<u8> {
+pub fn plan_for(job: Job, dice: &mut Dice) -> Vec<u8> {
     match job {
         Job::Damage(damage) => damage::make(damage, dice),
         Job::Set(recipe, deadlines) => {

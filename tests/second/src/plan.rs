@@ -1,18 +1,15 @@
-//! Plans as bytes, and what `judge` prints for them.
+//! Plans as bytes: reading and writing.
 
 use crate::flow::{Flow, Links, Record, BODY, FLOWS};
 use crate::refusal::Refusal;
 use crate::set::Set;
-use crate::verdict::{judge_set, Figures};
 
 pub const LINKS: u8 = 0x01;
 pub const FLOW: u8 = 0x02;
 pub const END: u8 = 0x7F;
 
-/// The header that `judge` prints.
-const HEADER: &str = "flow bound jitter busy\n";
-
-/// The set that a plan lists, or the first refusal of its records.
+/// The set that a plan lists, or the first refusal of its records: 12, 1, 2, 3,
+/// 4 or 6. RULES, reading.
 pub fn read(plan: &[u8]) -> Result<Set, Refusal> {
     let links = read_links(plan)?;
     let mut flows: Vec<Flow> = Vec::new();
@@ -77,36 +74,10 @@ pub fn write(set: &Set) -> Vec<u8> {
     out
 }
 
-/// The figures of an accepted plan, or its refusal.
-pub fn judge(plan: &[u8]) -> Result<Vec<Figures>, Refusal> {
-    judge_set(&read(plan)?)
-}
-
-pub fn line(figures: &Figures) -> String {
-    format!(
-        "{} {} {} {}\n",
-        figures.number, figures.bound, figures.jitter, figures.busy
-    )
-}
-
-/// The header and the lines of the flows.
-pub fn accepted_text(figures: &[Figures]) -> String {
-    let mut out = String::from(HEADER);
-    out.extend(figures.iter().map(line));
-    out
-}
-
-/// What `judge` prints.
-pub fn judge_text(plan: &[u8]) -> String {
-    match judge(plan) {
-        Ok(figures) => accepted_text(&figures),
-        Err(refusal) => format!("{refusal}\n"),
-    }
-}
-
 #[cfg(test)]
 mod tests {
     use super::*;
+    use crate::{frames, make_frames};
 
     fn flow(number: i64) -> Flow {
         Flow {
@@ -129,7 +100,7 @@ mod tests {
     }
 
     fn refused(plan: &[u8]) -> (i64, usize) {
-        let refusal = judge(plan).unwrap_err();
+        let refusal = read(plan).unwrap_err();
         assert_eq!(refusal.flow, 0);
         (refusal.number, refusal.place)
     }
@@ -149,7 +120,19 @@ mod tests {
         let plan = of(&[1, 7, 255]);
         assert_eq!(plan.len(), 6 + 34 * 3);
         assert_eq!(write(&read(&plan).unwrap()), plan);
-        assert_eq!(judge(&of(&[])), Ok(vec![]));
+        assert_eq!(of(&[]).len(), 6);
+        assert_eq!(write(&read(&of(&[])).unwrap()), of(&[]));
+    }
+
+    /// Whatever judging says of it. RULES, demands.
+    #[test]
+    fn every_plan_that_is_read_comes_back() {
+        let corpus = make_frames::make(2_000, 1);
+        for plan in frames::plans(&corpus) {
+            if let Ok(set) = read(plan) {
+                assert_eq!(write(&set), plan);
+            }
+        }
     }
 
     #[test]
@@ -225,7 +208,7 @@ mod tests {
         let plan = of(&numbers);
         let place = at(16);
         assert_eq!(place, 549);
-        assert!(judge(&of(&numbers[..16])).is_ok());
+        assert!(read(&of(&numbers[..16])).is_ok());
         assert_eq!(refused(&plan), (6, place));
         assert_eq!(
             refused(&changed(plan.clone(), &[(place + 9, 9)])),
@@ -246,10 +229,5 @@ mod tests {
         assert_eq!(refused(&plan[..place + 33]), (12, place));
         assert_eq!(refused(&plan[..place + 34]), (6, place));
         assert_eq!(refused(&changed(plan, &[(place, 3)])), (12, place));
-    }
-
-    #[test]
-    fn the_text_of_a_refusal() {
-        assert_eq!(judge_text(&[]), "refused 12 flow 0 at 0\n");
     }
 }

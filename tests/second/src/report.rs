@@ -5,6 +5,7 @@ use crate::flow::{BODY, FLOWS};
 use crate::frames;
 use crate::plan;
 use crate::refusal::Refusal;
+use crate::table::Table;
 use std::collections::BTreeMap;
 use std::io;
 
@@ -100,7 +101,7 @@ pub fn of_frames(input: &[u8]) -> Tally {
         ..Tally::default()
     };
     for bytes in frames::plans(input) {
-        match plan::judge(bytes) {
+        match Table::of_plan(bytes) {
             Ok(_) => tally.add(0, "accepted"),
             Err(refusal) => tally.add(refusal.number, &place_class(bytes, &refusal)),
         }
@@ -143,8 +144,10 @@ fn way(plan: &[u8], place: usize) -> &'static str {
     }
 }
 
-/// "After P": the table is the one that reading a written plan gave.
-const ANSWERS: [(i64, &str); 34] = [
+/// What the calls on a table come after is what gave the table: P, J or neither.
+/// What S and J come after is the last L or J; before L and after a refused one
+/// the set is empty.
+const ANSWERS: [(i64, &str); 79] = [
     (0, "fresh"),
     (0, "admitted"),
     (0, "withdrawn"),
@@ -179,7 +182,93 @@ const ANSWERS: [(i64, &str); 34] = [
     (11, "withdraw, after P"),
     (11, "ask, after P"),
     (13, "lent, one byte short, after P"),
+    (0, "read, no flow"),
+    (0, "read, some flows"),
+    (0, "read, sixteen flows"),
+    (1, "read"),
+    (2, "read"),
+    (3, "read"),
+    (4, "read"),
+    (6, "read"),
+    (12, "read"),
+    (0, "set written, before L"),
+    (0, "set written, after L"),
+    (0, "set written, after refused L"),
+    (0, "set written, after J"),
+    (0, "set written, after refused J"),
+    (0, "judged, before L"),
+    (0, "judged, after L"),
+    (0, "judged, after refused L"),
+    (0, "judged, after J"),
+    (7, "judge, after L"),
+    (8, "judge, after L"),
+    (9, "judge, after L"),
+    (10, "judge, after L"),
+    (7, "judge, after refused J"),
+    (8, "judge, after refused J"),
+    (9, "judge, after refused J"),
+    (10, "judge, after refused J"),
+    (0, "admitted, after J"),
+    (0, "withdrawn, after J"),
+    (0, "asked, after J"),
+    (0, "printed, after J"),
+    (0, "written, after J"),
+    (0, "lent, exact length, after J"),
+    (0, "lent, bytes left over, after J"),
+    (5, "admit, after J"),
+    (11, "withdraw, after J"),
+    (11, "ask, after J"),
+    (13, "lent, one byte short, after J"),
+    (0, "admitted, after refused J"),
+    (0, "printed, after refused J"),
+    (0, "written, after refused J"),
+    (0, "lent, exact length, after refused J"),
+    (0, "lent, bytes left over, after refused J"),
+    (11, "withdraw, after refused J"),
+    (11, "ask, after refused J"),
+    (13, "lent, one byte short, after refused J"),
 ];
+
+/// What the table and the set come from, as the end of an answer's name.
+struct Origin {
+    table: &'static str,
+    set: &'static str,
+}
+
+impl Origin {
+    const FIRST: Origin = Origin {
+        table: "",
+        set: ", before L",
+    };
+
+    /// That of what the call is made on.
+    fn of(&self, call: &Call) -> &'static str {
+        match call {
+            Call::Fresh(_) | Call::Read(_) => "",
+            Call::WriteSet | Call::Judge => self.set,
+            _ => self.table,
+        }
+    }
+
+    fn step(&mut self, call: &Call, refused: bool) {
+        match call {
+            Call::Fresh(_) => self.table = "",
+            Call::Admit(_) | Call::Withdraw(_) if !refused => self.table = "",
+            Call::Write => self.table = ", after P",
+            Call::Read(_) if refused => self.set = ", after refused L",
+            Call::Read(_) => self.set = ", after L",
+            Call::Judge => {
+                self.table = if refused {
+                    ", after refused J"
+                } else {
+                    ", after J"
+                };
+                self.set = self.table;
+            }
+            _ => {}
+        }
+    }
+}
 
 /// The kinds of answers of a sequence of calls.
 pub fn of_calls(input: &[u8]) -> io::Result<Tally> {
@@ -187,18 +276,16 @@ pub fn of_calls(input: &[u8]) -> io::Result<Tally> {
         wanted: ANSWERS.to_vec(),
         ..Tally::default()
     };
-    let mut after_plan = false;
-    let whole = calls::each(input, |call, answer, table| {
+    let mut origin = Origin::FIRST;
+    let whole = calls::each(input, |call, answer, kept| {
         let refused = refused(answer);
         let kind = match call {
-            Call::Lend(length) => room(*length, table.length()),
+            Call::Lend(length) => room(*length, kept.table.length()),
+            Call::Read(_) if refused.is_none() => listed(kept.set.flows.len()),
             _ => kind(call, refused.is_some()),
         };
-        after_plan &= !matches!(call, Call::Fresh(_));
-        let after = if after_plan { ", after P" } else { "" };
-        tally.add(refused.unwrap_or(0), &format!("{kind}{after}"));
-        let changes = matches!(call, Call::Admit(_) | Call::Withdraw(_)) && refused.is_none();
-        after_plan = after_plan && !changes || *call == Call::Write;
+        tally.add(refused.unwrap_or(0), &format!("{kind}{}", origin.of(call)));
+        origin.step(call, refused.is_some());
         Ok(())
     })?;
     if !whole {
@@ -218,6 +305,15 @@ fn room(lent: usize, length: usize) -> &'static str {
     }
 }
 
+/// A set that was read, by its flows.
+fn listed(flows: usize) -> &'static str {
+    match flows {
+        0 => "read, no flow",
+        FLOWS => "read, sixteen flows",
+        _ => "read, some flows",
+    }
+}
+
 /// The name of a call, refused or not.
 fn kind(call: &Call, refused: bool) -> &'static str {
     let (asked, done) = match call {
@@ -227,6 +323,9 @@ fn kind(call: &Call, refused: bool) -> &'static str {
         Call::Ask(_) => ("ask", "asked"),
         Call::Print => ("print", "printed"),
         Call::Write | Call::Lend(_) => ("write", "written"),
+        Call::Read(_) => ("read", "read"),
+        Call::WriteSet => ("write set", "set written"),
+        Call::Judge => ("judge", "judged"),
     };
     if refused {
         asked
@@ -274,7 +373,7 @@ mod tests {
 
     #[test]
     fn ways_of_12() {
-        let class = |plan: &[u8]| place_class(plan, &plan::judge(plan).unwrap_err());
+        let class = |plan: &[u8]| place_class(plan, &plan::read(plan).unwrap_err());
         assert_eq!(class(&[]), "links, none left");
         assert_eq!(class(&[2]), "links, wrong place");
         assert_eq!(class(&[1, 0]), "links, short body");

@@ -2,8 +2,9 @@
 
 use crate::flow::{Flow, Links};
 
-/// Link delays and flows in rising number.
-#[derive(Clone, Debug, PartialEq, Eq)]
+/// Link delays and flows in rising number. The default, without flows and with
+/// Lmin = Lmax = 0, goes with a refused reading. RULES, reading.
+#[derive(Clone, Debug, Default, PartialEq, Eq)]
 pub struct Set {
     pub links: Links,
     pub flows: Vec<Flow>,

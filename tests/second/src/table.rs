@@ -6,39 +6,40 @@ use crate::refusal::Refusal;
 use crate::set::Set;
 use crate::verdict::{judge_set, Figures};
 
-/// The flows present and their figures, worked out anew after each change.
-#[derive(Clone, Debug, PartialEq, Eq)]
+/// The flows present and their figures, worked out anew after each change. The
+/// default, without flows and with Lmin = Lmax = 0, is given where a fresh table
+/// or a set is refused. RULES, tables.
+#[derive(Clone, Debug, Default, PartialEq, Eq)]
 pub struct Table {
     set: Set,
     figures: Vec<Figures>,
 }
 
 impl Table {
-    fn empty(links: Links) -> Table {
-        Table {
-            set: Set {
-                links,
-                flows: Vec::new(),
-            },
-            figures: Vec::new(),
+    pub fn fresh(links: Links) -> Result<Table, Refusal> {
+        if !links.allowed() {
+            return Err(Refusal::plain(1));
         }
+        let set = Set {
+            links,
+            ..Set::default()
+        };
+        Ok(Table {
+            set,
+            ..Table::default()
+        })
     }
 
-    /// Delays that are refused leave an empty table with no delay at all. RULES,
-    /// tables.
-    pub fn fresh(links: Links) -> (Table, Option<Refusal>) {
-        if links.allowed() {
-            (Table::empty(links), None)
-        } else {
-            (Table::empty(Links::ZERO), Some(Refusal::plain(1)))
-        }
-    }
-
-    /// The table that a plan gives, or the plan's refusal.
-    pub fn of_plan(bytes: &[u8]) -> Result<Table, Refusal> {
-        let set = plan::read(bytes)?;
-        let figures = judge_set(&set)?;
+    /// The table of a set, or the lowest of refusals 7 to 10. RULES, judging.
+    pub fn judge(set: &Set) -> Result<Table, Refusal> {
+        let figures = judge_set(set)?;
+        let set = set.clone();
         Ok(Table { set, figures })
+    }
+
+    /// A plan is read, then its set judged. RULES, judging.
+    pub fn of_plan(bytes: &[u8]) -> Result<Table, Refusal> {
+        Table::judge(&plan::read(bytes)?)
     }
 
     /// Refusals 2 to 10, of which 7 to 10 judge the flows with the new one among
@@ -54,8 +55,7 @@ impl Table {
         let mut set = self.set.clone();
         set.flows.push(flow);
         set.flows.sort_by_key(|f| f.number);
-        let figures = judge_set(&set)?;
-        *self = Table { set, figures };
+        *self = Table::judge(&set)?;
         Ok(())
     }
 
@@ -64,8 +64,7 @@ impl Table {
         let place = self.place(number).ok_or(Refusal::plain(11))?;
         let mut set = self.set.clone();
         set.flows.remove(place);
-        let figures = judge_set(&set)?;
-        *self = Table { set, figures };
+        *self = Table::judge(&set)?;
         Ok(())
     }
 
@@ -120,7 +119,7 @@ mod tests {
     }
 
     fn table(numbers: &[i64]) -> Table {
-        let (mut table, _) = Table::fresh(Links { least: 1, most: 2 });
+        let mut table = Table::fresh(Links { least: 1, most: 2 }).unwrap();
         for number in numbers {
             table.admit(&flow(*number).record()).unwrap();
         }
