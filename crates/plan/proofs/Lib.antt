@@ -2,5 +2,6 @@
 pub mod Steps
 pub mod Puts
 pub mod Trips
+pub mod Unread
 pub mod Refusals
 pub mod Cases
