@@ -2,6 +2,7 @@
 pub mod Steps
 pub mod Puts
 pub mod Trips
+pub mod Unread
 pub mod Refusals
 pub mod Cases
 pub mod Promises

@@ -16,6 +16,7 @@ use Rattle.row.specs.Sets.{Readable}
 use Rattle.row.proofs.Arrays.{held-rowOf}
 use Rattle.row.proofs.Valid.{readable-none}
 use Rattle.records.specs.Bodies.{Bytes}
+use Rattle.reader.proofs.Places.{impossible}
 use Rattle.plan.specs.declared.FlowSet.{FlowSet}
 use Rattle.plan.specs.declared.Outcome.{Outcome}
 use Rattle.plan.specs.declared.Outcome.the-variants.{Read}
@@ -27,7 +28,8 @@ use Rattle.plan.specs.Reading.{readPlan}
 use Rattle.plan.specs.Writing.{planBytes, setBytes, planLength, writtenInto, bufferAfter}
 use Rattle.plan.specs.Demands.{size, WasRead, WritesBack, SetRead, SetWritten}
 use Rattle.plan.proofs.Refusals.{place-inside}
-use Rattle.plan.proofs.Trips.{refused-read, write-read, plan-form, form-read, plan-long, plan-length}
+use Rattle.plan.proofs.Trips.{form-read, write-read, plan-long, plan-length}
+use Rattle.plan.proofs.Unread.{plan-form, unread-exact}
 
 pub bytes-fit : (b : List ℕ) → ((k : ℕ) → Fits w8 (getD b k 0)) → Bytes b
 bytes-fit b f k = f k .fits
@@ -54,7 +56,7 @@ read-proper s w = subst Proper (w .given) (go (readPlan (w .bytes) .outcome) ref
         let i = plan-form (w .bytes) (w .fit) e in
         subst (λ (r : Reading). Proper (r .set)) (sym (form-read (w .bytes) i)) (proper-of (i .lmin) (i .lmax) (i .flows) (i .readable))
     go (outcome.Refused cause place) e =
-        subst Proper (sym (place-inside (w .bytes) .empty (λ g. refused-read cause place (sym e ∙ g)))) (proper-of 0 0 [] (readable-none 0 0 refl))
+        subst Proper (sym (place-inside (w .bytes) .empty (λ g. impossible (cc)))) (proper-of 0 0 [] (readable-none 0 0 refl))
 
 -- What is read and then written is the bytes that were read
 pub read-write : (b : List ℕ) → Bytes b → (s : FlowSet) → readPlan b ≡ record { outcome = Read; set = s } → setBytes s ≡ b
@@ -146,6 +148,7 @@ module _ (b : List ℕ) (u : Bytes b) where
     back =
         λ h old. writes-back (readPlan b .set) (read-proper (readPlan b .set) was-read) old b
         (read-write b u (readPlan b .set) (ap (λ (o : Outcome). record { outcome = o; set = readPlan b .set }) h));
+    refused = unread-exact b u;
     empty = place-inside b .empty;
   }
 

@@ -38,7 +38,7 @@ pub flow-long : (f : Flow) → length (flowWritten f) ≡ flowBody → length (f
 flow-long f h = ap suc h
 
 -- ---- the records of the flows
-flows-snoc : (fs : List Flow) (f : Flow) → flowsBytes (fs ++ (f ∷ [])) ≡ flowsBytes fs ++ flowBytes f
+pub flows-snoc : (fs : List Flow) (f : Flow) → flowsBytes (fs ++ (f ∷ [])) ≡ flowsBytes fs ++ flowBytes f
 unfolding flowsBytes
 flows-snoc [] f = append-nil (flowBytes f)
 flows-snoc (g ∷ fs) f = rw (flows-snoc fs f, append-assoc)

@@ -1,7 +1,7 @@
 -- Reading: a law for each way out.
 use Prim.Native.Nat.{ℕ, zero, suc, _+_, _-_, _≤_, _<_}
 use mathlib.Core.Path.{_≡_, refl, sym, ap, _∙_}
-use mathlib.Core.Bool.{Bool, true, false, cond, not, false≢true}
+use mathlib.Core.Bool.{Bool, true, false, cond, not, and-false, false≢true}
 use mathlib.Core.List.{List, [], _∷_, _++_}
 use native.Mathlib.Omega.{arith}
 use lib.ListN.{length, take, drop}
@@ -38,6 +38,10 @@ refused-made cause place row e = rw e
 pub falls-zero : (number last : ℕ) → number ≡ 0 → false ≡ fallsTo number last
 unfolding fallsTo
 falls-zero number last h = rw (eq-eqb _ _ h)
+
+pub falls-not : (number last : ℕ) → last < number → false ≡ fallsTo number last
+unfolding fallsTo
+falls-not number last h = rw (lt-leb _ _ h, and-false)
 
 pub falls-order : (number last : ℕ) → (number ≡ 0 → ⊥) → leb number last ≡ fallsTo number last
 unfolding fallsTo

@@ -1,142 +1,37 @@
--- What is written and then read is the set that was written; what is read and then written is the bytes that were read.
+-- What stands at a place of a plan, as its bytes and as what is read there; what is written and then read is the set that was written.
 use Prim.Native.Nat.{ℕ, zero, suc, _+_, _-_, _*_, _≤_, _<_}
 use mathlib.Core.Path.{_≡_, refl, sym, ap, _∙_}
-use mathlib.Core.Bool.{Bool, true, false, cond, not, _&&_, and-false, false≢true}
 use mathlib.Core.List.{List, [], _∷_, _++_, append-nil, append-assoc}
 use native.Mathlib.Numerals.{add-one}
+use native.Mathlib.Nat.{add-zero}
 use native.Mathlib.Omega.{arith}
-use lib.ListN.{length, getD, take, drop, length-append, length-drop, take-append-drop, drop-of-length-le}
-use lib.Seq.{take-at, drop-append-add, drop-cons, drop-drop, getD-append-seam, getD-drop, append-snoc, length-take-le}
-use lib.Dec.{leb, ltb, eqb}
-use borrow.Author.Tests.{eqb-true, leb-false, le-ltb, lt-leb, ltb-false}
+use lib.ListN.{length, getD, take, drop, length-append, length-drop, take-append-drop}
+use lib.Seq.{take-at, drop-at, drop-cons, drop-drop, getD-append-seam, getD-drop, append-snoc, length-take-le}
+use borrow.Author.Tests.{le-ltb, lt-leb}
 use Rattle.flows.specs.declared.Flow.{Flow}
 use Rattle.flows.specs.declared.Cause.{Cause}
-use Rattle.flows.specs.declared.Cause.the-variants.{Accepted, Full, Malformed}
-use Rattle.flows.specs.Refusals.{acceptedBy}
+use Rattle.flows.specs.declared.Cause.the-variants.{Accepted}
 use Rattle.flows.specs.Lists.{mostFlows, noFlow, rowOf}
 use Rattle.flows.specs.Tests.{delayCause, flowCause}
-use Rattle.flows.specs.WellFormed.{Each, each-none, each-more, Typed}
-use Rattle.row.specs.Rows.{lastNumber, Rising, rising-none, rising-more}
+use Rattle.flows.specs.WellFormed.{Each, each-more, Typed}
+use Rattle.row.specs.Rows.{lastNumber, Rising, rising-more}
 use Rattle.records.specs.declared.Links.{Links}
 use Rattle.records.specs.Kinds.{linksKind, linksBody, linksRecord, flowKind, flowBody, flowRecord, endKind}
 use Rattle.records.specs.Bodies.{Bytes, flowRead, linksWritten, flowWritten}
-use Rattle.reader.specs.declared.Kind.{Kind}
 use Rattle.reader.specs.declared.Kind.the-variants.{OfLinks, OfFlow, OfEnd}
-use Rattle.plan.specs.declared.Reading.{Reading}
-use Rattle.plan.specs.declared.Outcome.{Outcome}
-use Rattle.plan.specs.declared.Outcome.the-variants.{Read, Refused}
 use Rattle.reader.specs.Places.{kindAt}
-use Rattle.plan.specs.Reading.{flowAt, linksAt, refused, listed, unless, fallsTo, recordCause, readFlows, readAfterLinks, ifLinks, readPlan}
+use Rattle.plan.specs.Reading.{flowAt, linksAt, listed, unless, recordCause, readFlows, readAfterLinks, readPlan}
 use Rattle.plan.specs.Writing.{linksBytes, flowBytes, flowsBytes, planBytes, planLength}
-use Rattle.plan.specs.Demands.{InForm}
+use Rattle.plan.specs.Demands.{InForm, StartsLinks, StartsFlow, StartsEnd, After}
 use Rattle.row.specs.Sets.{Readable}
-use Rattle.flows.proofs.Causes.{accepted-only}
-use Rattle.flows.proofs.Passed.{delays-formed, formed}
+use Rattle.flows.proofs.Passed.{delays-formed}
 use Rattle.row.proofs.Arrays.{length-snoc}
 use Rattle.records.proofs.Writing.{length-flow}
 use Rattle.records.proofs.RoundTrip.{read-typed, flow-back, links-back, flow-again, links-again}
-use Rattle.reader.proofs.Places.{kind-end, kind-links, kind-flow, at-some, Whole, found}
-use Rattle.plan.proofs.Steps.{nextAfter, flows-at-none, flows-at-links, flows-at-end, flows-at-flow, plan-at-links, plan-at-flow, plan-at-end, plan-at-none}
+use Rattle.reader.proofs.Places.{kind-end, kind-links, kind-flow, at-some, Whole}
+use Rattle.plan.proofs.Steps.{nextAfter, falls-not, flows-at-end, flows-at-flow, plan-at-links}
 
--- ---- written, then read
-last-snoc : (fs : List Flow) (f : Flow) → lastNumber (fs ++ (f ∷ [])) ≡ f .number
-unfolding lastNumber
-last-snoc fs f =
-    let n : length (fs ++ (f ∷ [])) - 1 ≡ length fs = omega (arith, length-snoc fs f) in
-    ap (λ (i : ℕ). getD (fs ++ (f ∷ [])) i noFlow .number) n ∙ ap (λ (g : Flow). g .number) (getD-append-seam fs f [] noFlow)
-
-accepted-record : (fs : List Flow) (f : Flow) → lastNumber fs < f .number → length fs < mostFlows → flowCause f ≡ Accepted → recordCause fs f ≡ Accepted
-unfolding recordCause fallsTo
-accepted-record fs f h g e = rw (lt-leb (f .number) (lastNumber fs) h, and-false, e, lt-leb mostFlows (length fs) g)
-
--- a record between what is before it and what is after it
-module _ (pre post : List ℕ) where
-  end-here : kindAt (pre ++ (endKind ∷ post)) (length pre) ≡ OfEnd
-  end-here =
-      let x : List ℕ = endKind ∷ post in
-      let h : length pre < length (pre ++ x) = omega (arith, length-append pre x) in
-      sym (at-some (pre ++ x) (length pre) OfEnd h (kind-end _ _ (getD-append-seam pre endKind post 0)))
-
-  flow-here : (f : Flow) → Typed f → kindAt (pre ++ (flowBytes f ++ post)) (length pre) ≡ OfFlow
-  flow-here f t =
-      let x : List ℕ = flowBytes f ++ post in
-      let k : getD (pre ++ x) (length pre) 0 ≡ flowKind = getD-append-seam pre flowKind (flowWritten f ++ post) 0 in
-      let l : length (pre ++ x) ≡ length pre + (flowRecord + length post) =
-      omega (arith, length-append pre x, length-append (flowWritten f) post, length-flow f (t .nodes) (t .costs)) in
-      let n : length pre < length (pre ++ x) = omega arith in
-      let r : flowBody ≤ length (pre ++ x) - (length pre + 1) = omega arith in
-      sym (at-some (pre ++ x) (length pre) OfFlow n (kind-flow _ _ (λ e. omega arith) (λ e. omega arith) k r))
-
-  flow-same : (f : Flow) → Typed f → flowAt (pre ++ (flowBytes f ++ post)) (length pre) ≡ f
-  flow-same f t =
-      let x : List ℕ = flowBytes f ++ post in
-      let d : drop (length pre + 1) (pre ++ x) ≡ flowWritten f ++ post = drop-append-add pre x 1 in
-      ap flowRead (ap (take flowBody) d ∙ take-at (flowWritten f) post flowBody (length-flow f (t .nodes) (t .costs))) ∙ flow-again f t
-
-goes-on : (fs : List Flow) (b : List ℕ) (at lmin lmax room next : ℕ) (g : Flow) → recordCause fs (flowAt b at) ≡ Accepted → flowAt b at ≡ g → room ≡ suc next →
-    unless (recordCause fs (flowAt b at)) at (nextAfter room lmin lmax fs b at) ≡ readFlows next lmin lmax (fs ++ (g ∷ [])) b (at + flowRecord)
-unfolding unless nextAfter
-goes-on fs b at lmin lmax room next g good same more =
-    ap (λ (c : Cause). unless c at (nextAfter room lmin lmax fs b at)) good ∙ ap (λ (n : ℕ). nextAfter n lmin lmax fs b at) more ∙
-    ap (λ (f : Flow). readFlows next lmin lmax (fs ++ (f ∷ [])) b (at + flowRecord)) same
-
-read-flows : (gs fs : List Flow) (pre : List ℕ) (lmin lmax : ℕ) → Rising (lastNumber fs) gs → length fs + length gs ≤ mostFlows →
-    Each (λ f. flowCause f ≡ Accepted) gs → Each Typed gs →
-    readFlows (mostFlows - length fs) lmin lmax fs (pre ++ (flowsBytes gs ++ (endKind ∷ []))) (length pre) ≡ listed lmin lmax (rowOf (fs ++ gs))
-unfolding flowsBytes
-read-flows [] fs pre lmin lmax r h c t =
-    let x : List ℕ = endKind ∷ [] in
-    let n : length (pre ++ x) ≤ length pre + 1 = omega (arith, length-append pre x) in
-    flows-at-end (mostFlows - length fs) lmin lmax fs (pre ++ x) (length pre) (end-here pre []) ∙
-    rw (le-ltb (length pre + 1) (length (pre ++ x)) n, append-nil)
-read-flows (g ∷ gs) fs pre lmin lmax (rising-more i r) h (each-more e c) (each-more u t) =
-    let post : List ℕ = flowsBytes gs ++ (endKind ∷ []) in
-    let b : List ℕ = pre ++ (flowBytes g ++ post) in
-    let s : pre ++ ((flowBytes g ++ flowsBytes gs) ++ (endKind ∷ [])) ≡ b = ap (λ (q : List ℕ). pre ++ q) (append-assoc (flowBytes g) (flowsBytes gs) (endKind ∷ [])) in
-    let same : flowAt b (length pre) ≡ g = flow-same pre post g u in
-    let good : recordCause fs (flowAt b (length pre)) ≡ Accepted = ap (recordCause fs) same ∙ accepted-record fs g i (omega arith) e in
-    let room : mostFlows - length fs ≡ suc (mostFlows - length (fs ++ (g ∷ []))) = omega (arith, length-snoc fs g) in
-    let p : length pre + flowRecord ≡ length (pre ++ flowBytes g) =
-    omega (arith, length-append pre (flowBytes g), length-flow g (u .nodes) (u .costs)) in
-    let q : b ≡ (pre ++ flowBytes g) ++ post = sym (append-assoc pre (flowBytes g) post) in
-    let l : length (fs ++ (g ∷ [])) + length gs ≤ mostFlows = omega (arith, length-snoc fs g) in
-    let v : Rising (lastNumber (fs ++ (g ∷ []))) gs = rw (last-snoc fs g) r in
-    let ih = read-flows gs (fs ++ (g ∷ [])) (pre ++ flowBytes g) lmin lmax v l c t in
-    ap (λ (y : List ℕ). readFlows (mostFlows - length fs) lmin lmax fs y (length pre)) s ∙
-    flows-at-flow (mostFlows - length fs) lmin lmax fs b (length pre) (flow-here pre post g u) ∙
-    goes-on fs b (length pre) lmin lmax (mostFlows - length fs) (mostFlows - length (fs ++ (g ∷ []))) g good same room ∙
-    ap (λ (y : List ℕ). readFlows (mostFlows - length (fs ++ (g ∷ []))) lmin lmax (fs ++ (g ∷ [])) y (length pre + flowRecord)) q ∙
-    ap (λ (y : ℕ). readFlows (mostFlows - length (fs ++ (g ∷ []))) lmin lmax (fs ++ (g ∷ [])) ((pre ++ flowBytes g) ++ post) y) p ∙
-    ih ∙ ap (λ (y : List Flow). listed lmin lmax (rowOf y)) (append-snoc fs g gs)
-
--- a plan that was written
-module _ (lmin lmax : ℕ) (fs : List Flow) where
-  links-here : kindAt (planBytes lmin lmax fs) 0 ≡ OfLinks
-  unfolding planBytes
-  links-here = sym (at-some (planBytes lmin lmax fs) 0 OfLinks (omega arith) (kind-links _ _ (λ e. omega arith) refl (omega arith)))
-
-  links-same : lmin < 65536 → lmax < 65536 → linksAt (planBytes lmin lmax fs) 0 ≡ record { lmin = lmin; lmax = lmax }
-  unfolding planBytes
-  links-same h g = links-again lmin lmax h g
-
-  rest-read : Readable lmin lmax fs → readAfterLinks lmin lmax (planBytes lmin lmax fs) ≡ listed lmin lmax (rowOf fs)
-  unfolding planBytes lastNumber
-  rest-read s =
-      ap (λ (y : List ℕ). readFlows mostFlows lmin lmax [] y linksRecord) (append-assoc (linksBytes lmin lmax) (flowsBytes fs) (endKind ∷ [])) ∙
-      read-flows fs [] (linksBytes lmin lmax) lmin lmax (s .rising) (omega (arith, s .count)) (s .flows) (s .typed)
-
-  -- What is written and then read is the set that was written
-  pub write-read : Readable lmin lmax fs → readPlan (planBytes lmin lmax fs) ≡ listed lmin lmax (rowOf fs)
-  unfolding readPlan ifLinks unless
-  write-read s =
-      let d = delays-formed lmin lmax (s .delays) in
-      let b : List ℕ = planBytes lmin lmax fs in
-      let l : linksAt b 0 ≡ record { lmin = lmin; lmax = lmax } = links-same (omega arith) (omega arith) in
-      let go : Links → Reading = λ x. unless (delayCause (x .lmin) (x .lmax)) 0 (readAfterLinks (x .lmin) (x .lmax) b) in
-      ap (λ (k : Kind). ifLinks k (go (linksAt b 0)) (refused Malformed 0)) links-here ∙ ap go l ∙
-      ap (λ (c : Cause). unless c 0 (readAfterLinks lmin lmax b)) (s .delays) ∙ rest-read s
-
--- ---- read, then written
+-- ---- a record at a place
 bytes-take : (n : ℕ) (b : List ℕ) → Bytes b → Bytes (take n b)
 bytes-take zero b u k = omega arith
 bytes-take (suc n) [] u k = omega arith
@@ -161,166 +56,149 @@ module _ (b : List ℕ) (at kind n : ℕ) (w : Whole b at kind n) where
   body-long : length (take n (drop (at + 1) b)) ≡ n
   body-long = length-take-le n (drop (at + 1) b) (omega (arith, w .room, length-drop (at + 1) b))
 
-pub refused-read : (c : Cause) (place : ℕ) → Refused c place ≡ Read → ⊥
-refused-read c place e = false≢true (ap isRead e)
-  where
-    isRead : Outcome → Bool
-    isRead Read = true
-    isRead (Refused cause at) = false
+  body-bytes : Bytes b → Bytes (take n (drop (at + 1) b))
+  body-bytes u = bytes-take n (drop (at + 1) b) (bytes-drop (at + 1) b u)
 
-refused-no : (r : Reading) (c : Cause) (place : ℕ) → r ≡ refused c place → r .outcome ≡ Read → ⊥
-unfolding refused
-refused-no r c place e g = refused-read c place (ap (λ (x : Reading). x .outcome) (sym e) ∙ g)
+-- the rest of a plan from a place on begins with a record exactly if there is one of that kind at the place
+module _ (b : List ℕ) (at : ℕ) {rest : List ℕ} (e : drop at b ≡ rest) where
+  pub first-byte : (x : ℕ) (y : List ℕ) → rest ≡ x ∷ y → (getD b at 0 ≡ x) × (length b ≡ at + 1 + length y)
+  first-byte x y h =
+      let g : drop at b ≡ x ∷ y = e ∙ h in
+      (sym (rw (add-zero at) at (getD-drop at b 0 0)) ∙ ap (λ (l : List ℕ). getD l 0 0) g, omega (arith, length-drop at b, ap length g))
 
--- the flows that a reading found from a place on, what is known of them, and the bytes there
-record Found (fs : List Flow) (b : List ℕ) (at : ℕ) : Type 0 where
-  rest : List Flow
-  bytes : drop at b ≡ flowsBytes rest ++ (endKind ∷ [])
-  rising : Rising (lastNumber fs) rest
-  count : length fs + length rest ≤ mostFlows
-  flows : Each (λ f. flowCause f ≡ Accepted) rest
-  typed : Each Typed rest
+  pub end-here : StartsEnd rest → kindAt b at ≡ OfEnd
+  end-here s = let k = first-byte endKind (s .rest) (s .bytes) in sym (at-some b at OfEnd (omega (arith, k .1)) (kind-end _ _ (k .0)))
 
--- a flow's record that was accepted
-record Taken (fs : List Flow) (f : Flow) : Type 0 where
-  flow : flowCause f ≡ Accepted
-  rises : lastNumber fs < f .number
-  room : length fs < mostFlows
+  pub end-starts : Whole b at endKind 0 → StartsEnd rest
+  end-starts w = record { rest = drop (at + 1) b; bytes = sym e ∙ record-split b at endKind 0 w }
 
-taken : (fs : List Flow) (f : Flow) → Typed f → acceptedBy (recordCause fs f) ≡ true → Taken fs f
-unfolding recordCause fallsTo
-taken fs f t h =
-    go (eqb (f .number) 0) (leb (f .number) (lastNumber fs)) (acceptedBy (flowCause f)) (leb mostFlows (length fs)) refl refl refl refl h
-  where
-    go : (o p q r : Bool) → eqb (f .number) 0 ≡ o → leb (f .number) (lastNumber fs) ≡ p → acceptedBy (flowCause f) ≡ q → leb mostFlows (length fs) ≡ r →
-        acceptedBy (cond (not o && p) Malformed (cond q (cond r Full Accepted) (flowCause f))) ≡ true → Taken fs f
-    go false true q r i j k l g = absurd (false≢true g)
-    go true p false r i j k l g = absurd (false≢true (sym k ∙ g))
-    go false false false r i j k l g = absurd (false≢true (sym k ∙ g))
-    go true p true true i j k l g = absurd (false≢true g)
-    go false false true true i j k l g = absurd (false≢true g)
-    go true p true false i j k l g =
-        let n = formed f t (accepted-only (flowCause f) k) .number .0 in
-        let z = eqb-true (f .number) 0 i in
-        absurd (omega arith)
-    go false false true false i j k l g =
-        record { flow = accepted-only (flowCause f) k; rises = leb-false _ _ j; room = leb-false _ _ l }
+  module _ {f : Flow} (s : StartsFlow rest f) where
+    long : length (flowWritten f) ≡ flowBody
+    long = length-flow f (s .typed .nodes) (s .typed .costs)
 
-module _ (room lmin lmax : ℕ) (fs : List Flow) (b : List ℕ) (at : ℕ) (u : Bytes b) (few : length fs ≤ mostFlows) where
-  end-found : (r : Reading) → Whole b at endKind 0 → r ≡ cond (ltb (at + 1) (length b)) (refused Malformed (at + 1)) (listed lmin lmax (rowOf fs)) →
-      r .outcome ≡ Read → Found fs b at
-  unfolding flowsBytes
-  end-found r w e h = go (ltb (at + 1) (length b)) refl e
-    where
-      go : (t : Bool) → ltb (at + 1) (length b) ≡ t → r ≡ cond t (refused Malformed (at + 1)) (listed lmin lmax (rowOf fs)) → Found fs b at
-      go true i g = absurd (refused-no r Malformed (at + 1) g h)
-      go false i g =
-          let n : length b ≤ at + 1 = ltb-false (at + 1) (length b) i in
-          let z : drop (at + (1 + 0)) b ≡ [] = drop-of-length-le b {i = at + (1 + 0)} (omega arith) in
-          record {
-            rest = [];
-            bytes = record-split b at endKind 0 w ∙ ap (λ (l : List ℕ). endKind ∷ l) z;
-            rising = rising-none;
-            count = omega arith;
-            flows = each-none;
-            typed = each-none;
-          }
+    behind : (n : ℕ) → drop (at + n) b ≡ drop n (flowBytes f ++ s .rest)
+    behind n = sym (drop-drop n at b) ∙ ap (drop n) (e ∙ s .bytes)
 
-  flow-found : (r : Reading) → Whole b at flowKind flowBody →
-      r ≡ unless (recordCause fs (flowAt b at)) at (nextAfter room lmin lmax fs b at) → r .outcome ≡ Read →
-      (length (fs ++ (flowAt b at ∷ [])) ≤ mostFlows → nextAfter room lmin lmax fs b at .outcome ≡ Read →
-      Found (fs ++ (flowAt b at ∷ [])) b (at + flowRecord)) →
-      Found fs b at
-  unfolding unless flowsBytes
-  flow-found r w e h ih = go (acceptedBy (recordCause fs (flowAt b at))) refl e
-    where
-      go : (t : Bool) → acceptedBy (recordCause fs (flowAt b at)) ≡ t →
-          r ≡ cond t (nextAfter room lmin lmax fs b at) (refused (recordCause fs (flowAt b at)) at) → Found fs b at
-      go false i g = absurd (refused-no r (recordCause fs (flowAt b at)) at g h)
-      go true i g =
-          let f = flowAt b at in
-          let part : Bytes (take flowBody (drop (at + 1) b)) = bytes-take flowBody (drop (at + 1) b) (bytes-drop (at + 1) b u) in
-          let y : flowWritten f ≡ take flowBody (drop (at + 1) b) =
-          flow-back (take flowBody (drop (at + 1) b)) (body-long b at flowKind flowBody w) part in
-          let ty : Typed f = read-typed (take flowBody (drop (at + 1) b)) part in
-          let k = taken fs f ty i in
-          let n = ih (omega (arith, k .room, length-snoc fs f)) (rw g at h) in
-          record {
-            rest = f ∷ n .rest;
-            bytes =
-                record-split b at flowKind flowBody w ∙ ap (λ (l : List ℕ). flowKind ∷ (l ++ drop (at + flowRecord) b)) (sym y) ∙
-                ap (λ (l : List ℕ). flowBytes f ++ l) (n .bytes) ∙ sym (append-assoc (flowBytes f) (flowsBytes (n .rest)) (endKind ∷ []));
-            rising = rising-more (k .rises) (rw (last-snoc fs f) at (n .rising));
-            count = omega (arith, n .count, length-snoc fs f);
-            flows = each-more (k .flow) (n .flows);
-            typed = each-more ty (n .typed);
-          }
+    flow-next : drop (at + flowRecord) b ≡ s .rest
+    flow-next = behind flowRecord ∙ drop-at (flowBytes f) (s .rest) flowRecord (ap suc long)
 
-  record-found : readFlows room lmin lmax fs b at .outcome ≡ Read →
-      (length (fs ++ (flowAt b at ∷ [])) ≤ mostFlows → nextAfter room lmin lmax fs b at .outcome ≡ Read →
-      Found (fs ++ (flowAt b at ∷ [])) b (at + flowRecord)) →
-      Found fs b at
-  record-found h ih =
-      found b at (kindAt b at) refl
-      (λ g. absurd (refused-no _ Malformed at (flows-at-none room lmin lmax fs b at g) h))
-      (λ w g. end-found (readFlows room lmin lmax fs b at) w (flows-at-end room lmin lmax fs b at g) h)
-      (λ w g. absurd (refused-no _ Malformed at (flows-at-links room lmin lmax fs b at g) h))
-      (λ w g. flow-found (readFlows room lmin lmax fs b at) w (flows-at-flow room lmin lmax fs b at g) h ih)
+    pub flow-here : kindAt b at ≡ OfFlow
+    flow-here =
+        let k = first-byte flowKind (flowWritten f ++ s .rest) (s .bytes) in
+        let l = length-append (flowWritten f) (s .rest) in
+        let r : flowBody ≤ length b - (at + 1) = omega (arith, k .1, long) in
+        sym (at-some b at OfFlow (omega (arith, k .1)) (kind-flow _ _ (λ q. omega (arith, k .0)) (λ q. omega (arith, k .0)) (k .0) r))
 
-flows-found : (room lmin lmax : ℕ) (fs : List Flow) (b : List ℕ) (at : ℕ) → Bytes b → length fs ≤ mostFlows → readFlows room lmin lmax fs b at .outcome ≡ Read →
-    Found fs b at
-unfolding nextAfter
-flows-found zero lmin lmax fs b at u few h = record-found zero lmin lmax fs b at u few h (λ m g. absurd (refused-no _ Full at refl g))
-flows-found (suc room) lmin lmax fs b at u few h =
-    record-found (suc room) lmin lmax fs b at u few h (λ m g. flows-found room lmin lmax (fs ++ (flowAt b at ∷ [])) b (at + flowRecord) u m g)
+    pub flow-same : flowAt b at ≡ f
+    flow-same = ap flowRead (ap (take flowBody) (behind 1) ∙ take-at (flowWritten f) (s .rest) flowBody long) ∙ flow-again f (s .typed)
+
+  pub flow-starts : Bytes b → Whole b at flowKind flowBody → StartsFlow rest (flowAt b at)
+  flow-starts u w =
+      let part = body-bytes b at flowKind flowBody w u in
+      let y : flowWritten (flowAt b at) ≡ take flowBody (drop (at + 1) b) = flow-back _ (body-long b at flowKind flowBody w) part in
+      record {
+        rest = drop (at + flowRecord) b;
+        typed = read-typed (take flowBody (drop (at + 1) b)) part;
+        bytes = sym e ∙ record-split b at flowKind flowBody w ∙ ap (λ (l : List ℕ). flowKind ∷ (l ++ drop (at + flowRecord) b)) (sym y);
+      }
 
 module _ (b : List ℕ) where
-  links-found : (r : Reading) → Bytes b → Whole b 0 linksKind linksBody →
-      r ≡ unless (delayCause (linksAt b 0 .lmin) (linksAt b 0 .lmax)) 0 (readAfterLinks (linksAt b 0 .lmin) (linksAt b 0 .lmax) b) →
-      r .outcome ≡ Read → InForm b
-  unfolding unless planBytes lastNumber
-  links-found r u w e h = go (acceptedBy (delayCause l m)) refl e
-    where
-      l : ℕ
-      l = linksAt b 0 .lmin
+  pub links-starts : Bytes b → Whole b 0 linksKind linksBody → StartsLinks b (linksAt b 0 .lmin) (linksAt b 0 .lmax)
+  links-starts u w =
+      let part = body-bytes b 0 linksKind linksBody w u in
+      let y = links-back (take linksBody (drop 1 b)) (body-long b 0 linksKind linksBody w) part in
+      record {
+        rest = drop linksRecord b;
+        least = omega (arith, part 0, part 1);
+        most = omega (arith, part 2, part 3);
+        bytes = record-split b 0 linksKind linksBody w ∙ ap (λ (l : List ℕ). linksKind ∷ (l ++ drop linksRecord b)) (sym y);
+      }
 
-      m : ℕ
-      m = linksAt b 0 .lmax
+  module _ (lmin lmax : ℕ) (s : StartsLinks b lmin lmax) where
+    pub links-here : kindAt b 0 ≡ OfLinks
+    links-here =
+        let k = first-byte b 0 refl linksKind (linksWritten lmin lmax ++ s .rest) (s .bytes) in
+        sym (at-some b 0 OfLinks (omega (arith, k .1)) (kind-links _ _ (λ q. omega (arith, k .0)) (k .0) (omega (arith, k .1))))
 
-      go : (t : Bool) → acceptedBy (delayCause l m) ≡ t → r ≡ cond t (readAfterLinks l m b) (refused (delayCause l m) 0) → InForm b
-      go false i g = absurd (refused-no r (delayCause l m) 0 g h)
-      go true i g =
-          let n = flows-found mostFlows l m [] b linksRecord u (omega arith) (rw g at h) in
-          let y : linksWritten l m ≡ take linksBody (drop 1 b) =
-          links-back (take linksBody (drop 1 b)) (body-long b 0 linksKind linksBody w) (bytes-take linksBody (drop 1 b) (bytes-drop 1 b u)) in
-          record {
-            lmin = l;
-            lmax = m;
-            flows = n .rest;
-            bytes =
-                record-split b 0 linksKind linksBody w ∙ ap (λ (x : List ℕ). linksKind ∷ (x ++ drop linksRecord b)) (sym y) ∙
-                ap (λ (x : List ℕ). linksBytes l m ++ x) (n .bytes) ∙ sym (append-assoc (linksBytes l m) (flowsBytes (n .rest)) (endKind ∷ []));
-            readable = record {
-              delays = accepted-only (delayCause l m) i;
-              rising = n .rising;
-              count = omega (arith, n .count);
-              flows = n .flows;
-              typed = n .typed;
-            };
-          }
+    links-same : linksAt b 0 ≡ record { lmin = lmin; lmax = lmax }
+    links-same = rw (s .bytes) (links-again lmin lmax (s .least) (s .most))
 
-  -- What is read is in form
-  pub plan-form : Bytes b → readPlan b .outcome ≡ Read → InForm b
-  plan-form u h =
-      found b 0 (kindAt b 0) refl
-      (λ g. absurd (refused-no _ Malformed 0 (plan-at-none b g) h))
-      (λ w g. absurd (refused-no _ Malformed 0 (plan-at-end b g) h))
-      (λ w g. links-found (readPlan b) u w (plan-at-links b g) h)
-      (λ w g. absurd (refused-no _ Malformed 0 (plan-at-flow b g) h))
+    pub plan-starts : readPlan b ≡ unless (delayCause lmin lmax) 0 (readAfterLinks lmin lmax b)
+    plan-starts =
+        plan-at-links b links-here ∙
+        ap (λ (x : Links). unless (delayCause (x .lmin) (x .lmax)) 0 (readAfterLinks (x .lmin) (x .lmax) b)) links-same
 
-  -- What is in form is read, as the set that it lists
-  pub form-read : (i : InForm b) → readPlan b ≡ listed (i .lmin) (i .lmax) (rowOf (i .flows))
-  form-read i = ap readPlan (i .bytes) ∙ write-read (i .lmin) (i .lmax) (i .flows) (i .readable)
+-- ---- written, then read
+pub last-snoc : (fs : List Flow) (f : Flow) → lastNumber (fs ++ (f ∷ [])) ≡ f .number
+unfolding lastNumber
+last-snoc fs f =
+    let n : length (fs ++ (f ∷ [])) - 1 ≡ length fs = omega (arith, length-snoc fs f) in
+    ap (λ (i : ℕ). getD (fs ++ (f ∷ [])) i noFlow .number) n ∙ ap (λ (g : Flow). g .number) (getD-append-seam fs f [] noFlow)
+
+accepted-record : (fs : List Flow) (f : Flow) → lastNumber fs < f .number → length fs < mostFlows → flowCause f ≡ Accepted → recordCause fs f ≡ Accepted
+unfolding recordCause
+accepted-record fs f h g e = rw (← falls-not (f .number) (lastNumber fs) h, e, lt-leb mostFlows (length fs) g)
+
+-- a flow's record that is accepted
+goes-on : (room next lmin lmax : ℕ) (fs : List Flow) (b : List ℕ) (at : ℕ) (f : Flow) → kindAt b at ≡ OfFlow → flowAt b at ≡ f →
+    recordCause fs f ≡ Accepted → room ≡ suc next →
+    readFlows room lmin lmax fs b at ≡ readFlows next lmin lmax (fs ++ (f ∷ [])) b (at + flowRecord)
+unfolding unless nextAfter
+goes-on room next lmin lmax fs b at f here same good more = flows-at-flow room lmin lmax fs b at here ∙ rw (more, same, good)
+
+-- after flows that are not refused, reading goes on behind their records
+read-flows : (gs fs : List Flow) (b post : List ℕ) (at lmin lmax : ℕ) → drop at b ≡ flowsBytes gs ++ post →
+    Rising (lastNumber fs) gs → length fs + length gs ≤ mostFlows → Each (λ f. flowCause f ≡ Accepted) gs → Each Typed gs →
+    readFlows (mostFlows - length fs) lmin lmax fs b at ≡
+    readFlows (mostFlows - length (fs ++ gs)) lmin lmax (fs ++ gs) b (at + length (flowsBytes gs))
+unfolding flowsBytes
+read-flows [] fs b post at lmin lmax s r h c t = rw (append-nil fs, add-zero)
+read-flows (g ∷ gs) fs b post at lmin lmax s (rising-more j r) h (each-more e c) (each-more u t) =
+    let z : StartsFlow ((flowBytes g ++ flowsBytes gs) ++ post) g =
+    record { rest = flowsBytes gs ++ post; typed = u; bytes = append-assoc (flowBytes g) (flowsBytes gs) post } in
+    let more : mostFlows - length fs ≡ suc (mostFlows - length (fs ++ (g ∷ []))) = omega (arith, length-snoc fs g) in
+    let p : at + flowRecord + length (flowsBytes gs) ≡ at + length (flowBytes g ++ flowsBytes gs) =
+    omega (arith, length-append (flowBytes g) (flowsBytes gs), length-flow g (u .nodes) (u .costs)) in
+    let l : length (fs ++ (g ∷ [])) + length gs ≤ mostFlows = omega (arith, length-snoc fs g) in
+    let v : Rising (lastNumber (fs ++ (g ∷ []))) gs = rw (last-snoc fs g) r in
+    let ih = read-flows gs (fs ++ (g ∷ [])) b post (at + flowRecord) lmin lmax (flow-next b at s z) v l c t in
+    goes-on _ _ lmin lmax fs b at g (flow-here b at s z) (flow-same b at s z) (accepted-record fs g j (omega arith) e) more ∙
+    rw (append-snoc fs g gs, p) at ih
+
+module _ {b : List ℕ} {fs : List Flow} {place : ℕ} {rest : List ℕ} (a : After b fs place rest) where
+  pub after-rest : drop place b ≡ rest
+  after-rest = ap (drop place) (a .bytes) ∙ drop-at (linksBytes (a .lmin) (a .lmax) ++ flowsBytes fs) rest place (sym (a .place-is))
+
+  -- the records that are not refused are read, whatever follows them
+  pub read-after : readPlan b ≡ readFlows (mostFlows - length fs) (a .lmin) (a .lmax) fs b place
+  unfolding unless lastNumber
+  read-after =
+      let r = a .readable in
+      let d = delays-formed (a .lmin) (a .lmax) (r .delays) in
+      let x : List ℕ = linksBytes (a .lmin) (a .lmax) in
+      let e : b ≡ x ++ (flowsBytes fs ++ rest) = a .bytes ∙ append-assoc x (flowsBytes fs) rest in
+      let s : StartsLinks b (a .lmin) (a .lmax) =
+      record { rest = flowsBytes fs ++ rest; least = omega (arith, d); most = omega (arith, d); bytes = e } in
+      let p : linksRecord + length (flowsBytes fs) ≡ place = omega (arith, a .place-is, length-append x (flowsBytes fs)) in
+      plan-starts b (a .lmin) (a .lmax) s ∙ ap (λ (c : Cause). unless c 0 (readAfterLinks (a .lmin) (a .lmax) b)) (r .delays) ∙
+      rw p at (read-flows fs [] b rest linksRecord (a .lmin) (a .lmax) (ap (drop linksRecord) e) (r .rising) (omega (arith, r .count)) (r .flows) (r .typed))
+
+-- What is in form is read, as the set that it lists
+pub form-read : (b : List ℕ) (i : InForm b) → readPlan b ≡ listed (i .lmin) (i .lmax) (rowOf (i .flows))
+unfolding planBytes
+form-read b i =
+    let p : List ℕ = linksBytes (i .lmin) (i .lmax) ++ flowsBytes (i .flows) in
+    let a : After b (i .flows) (length p) (endKind ∷ []) =
+    record { lmin = i .lmin; lmax = i .lmax; readable = i .readable; bytes = i .bytes; place-is = refl } in
+    let n : length b ≤ length p + 1 = omega (arith, first-byte b (length p) (after-rest a) endKind [] refl .1) in
+    let s : StartsEnd (endKind ∷ []) = record { rest = []; bytes = refl } in
+    read-after a ∙
+    flows-at-end (mostFlows - length (i .flows)) (i .lmin) (i .lmax) (i .flows) b (length p) (end-here b (length p) (after-rest a) s) ∙
+    rw (le-ltb (length p + 1) (length b) n)
+
+-- What is written and then read is the set that was written
+pub write-read : (lmin lmax : ℕ) (fs : List Flow) → Readable lmin lmax fs → readPlan (planBytes lmin lmax fs) ≡ listed lmin lmax (rowOf fs)
+write-read lmin lmax fs s = form-read (planBytes lmin lmax fs) (record { lmin = lmin; lmax = lmax; flows = fs; readable = s; bytes = refl })
 
 -- ---- the length of a plan
 flows-long : (fs : List Flow) → Each Typed fs → length (flowsBytes fs) ≡ flowRecord * length fs

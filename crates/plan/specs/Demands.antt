@@ -89,6 +89,7 @@ pub record SetRead (b : List ℕ) (r : Reading) : Type 0 where
   pub exactly : Exactly (r .outcome ≡ Read) (InForm b)
   pub lists : (i : InForm b) → r .set ≡ record { lmin = i .lmin; lmax = i .lmax; row = rowOf (i .flows) }
   pub back : r .outcome ≡ Read → (old : List ℕ) → length b ≤ length old → WritesBack b (r .set) old
+  pub refused : (cause : Cause) (place : ℕ) → Exactly (r .outcome ≡ outcome.Refused cause place) (Unread b cause place)
   -- none of a refused plan is given
   pub empty : (r .outcome ≡ Read → ⊥) → r .set ≡ emptySet
 

@@ -14,13 +14,13 @@ use Rattle.flows.specs.Refusals.{acceptedBy}
 use Rattle.flows.specs.Lists.{netOf}
 use Rattle.flows.proofs.Causes.{accepted-only}
 use Rattle.records.specs.Bodies.{Bytes}
+use Rattle.reader.proofs.Places.{impossible}
 use Rattle.plan.specs.declared.FlowSet.{FlowSet}
 use Rattle.plan.specs.declared.Outcome.{Outcome}
 use Rattle.plan.specs.declared.Outcome.the-variants.{Read, Refused}
 use Rattle.plan.specs.Reading.{causeIn, placeIn, readPlan}
 use Rattle.plan.specs.Writing.{setBytes}
 use Rattle.plan.proofs.Refusals.{place-inside}
-use Rattle.plan.proofs.Trips.{refused-read}
 use Rattle.plan.proofs.Promises.{Proper, read-proper, write-read-set, read-write}
 use Rattle.engine.specs.declared.Verdict.{Verdict}
 use Rattle.engine.specs.Verdicts.{refused, given, verdictFrom, verdictOf}
@@ -127,7 +127,7 @@ module _ (b : List ℕ) where
       go : (o : Outcome) → readPlan b .outcome ≡ o → planAnswer b ≡ answerAs o s → A
       go Read e g = is-read e g
       go (Refused cause place) e g =
-          is-refused (λ h. refused-read cause place (sym e ∙ h)) (g ∙ ap (λ (o : Outcome). refusedPlan (causeIn o) (placeIn o)) (sym e))
+          is-refused (λ h. impossible (cc)) (g ∙ ap (λ (o : Outcome). refusedPlan (causeIn o) (placeIn o)) (sym e))
 
   refuses : (readPlan b .outcome ≡ Read → ⊥) → planAnswer b ≡ refusedPlan (causeIn (readPlan b .outcome)) (placeIn (readPlan b .outcome)) →
       acceptedBy (planAnswer b .cause) ≡ false

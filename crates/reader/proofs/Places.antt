@@ -83,7 +83,7 @@ module _ (b : List ℕ) (at : ℕ) where
       go false false false s false u e₀ e₁ e₂ e₃ e₄ e₅ g = none g
 
 -- a kind other than the one asked for
-impossible : {A : Type 0} → _≡_ {A = ℕ} 0 1 → A
+pub impossible : {A : Type 0} → _≡_ {A = ℕ} 0 1 → A
 impossible e = absurd (omega arith)
 
 module _ (b : List ℕ) (at : ℕ) (k : Kind) (e : k ≡ kindAt b at) where

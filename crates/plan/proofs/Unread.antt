@@ -1,0 +1,221 @@
+-- Any bytes are a plan in form, or have a first record that is refused; reading gives the set of the one, of the other the refusal and the place.
+use Prim.Native.Nat.{ℕ, zero, suc, _+_, _<_}
+use mathlib.Core.Path.{_≡_, refl, sym, ap, _∙_, subst}
+use mathlib.Core.Bool.{Bool, true, false, cond, not, _&&_}
+use mathlib.Core.List.{List, [], _∷_, _++_, append-nil, append-assoc}
+use mathlib.Core.Logic.{_⊎_, inl, inr}
+use native.Mathlib.Omega.{arith}
+use lib.ListN.{length, length-append}
+use lib.Seq.{append-snoc}
+use lib.Dec.{leb, eqb}
+use borrow.Author.Tests.{eqb-true, eqb-false, lt-ltb, le-leb, leb-true, leb-false}
+use Rattle.flows.specs.declared.Flow.{Flow}
+use Rattle.flows.specs.declared.Cause.{Cause}
+use Rattle.flows.specs.declared.Cause.the-variants.{Accepted, Delays, Full, Malformed}
+use Rattle.flows.specs.Refusals.{acceptedBy}
+use Rattle.flows.specs.Lists.{mostFlows}
+use Rattle.flows.specs.Tests.{delayCause, flowCause}
+use Rattle.flows.specs.WellFormed.{Exactly, OfDelays, delays-fit, delays-unfit, Each, each-none, each-more, Typed}
+use Rattle.row.specs.Rows.{lastNumber, Rising, rising-none, rising-more}
+use Rattle.records.specs.Kinds.{linksRecord, flowRecord, endKind}
+use Rattle.records.specs.Bodies.{Bytes}
+use Rattle.reader.specs.declared.Kind.the-variants.{OfLinks, OfFlow, OfEnd}
+use Rattle.reader.specs.Places.{kindAt}
+use Rattle.plan.specs.declared.Reading.{Reading}
+use Rattle.plan.specs.declared.Outcome.the-variants.{Read, Refused}
+use Rattle.plan.specs.Reading.{flowAt, refused, unless, fallsTo, recordCause, readAfterLinks, readPlan}
+use Rattle.plan.specs.Writing.{linksBytes, flowBytes, flowsBytes, planBytes}
+use Rattle.plan.specs.Demands.{InForm, StartsLinks, StartsFlow, StartsEnd, After, OfRecord, not-rising, by-itself, no-room, Unread, no-links, unfit-links, no-record, of-flow, after-end}
+use Rattle.flows.proofs.Causes.{accepted-only, not-accepted, refused-never}
+use Rattle.flows.proofs.Passed.{delays-exact, flow-exact, formed, formed-passes}
+use Rattle.row.proofs.Arrays.{length-snoc}
+use Rattle.row.proofs.Valid.{readable-none}
+use Rattle.records.proofs.Writing.{length-flow}
+use Rattle.reader.proofs.Places.{found, impossible}
+use Rattle.plan.proofs.Steps.{falls-zero, falls-not, falls-order, flows-at-none, flows-at-links, flows-at-end, flows-at-flow, plan-at-flow, plan-at-end, plan-at-none}
+use Rattle.plan.proofs.Puts.{flows-snoc}
+use Rattle.plan.proofs.Trips.{last-snoc, first-byte, end-here, end-starts, flow-here, flow-same, flow-starts, links-starts, links-here, plan-starts, after-rest, read-after, form-read}
+
+-- ---- a flow's record: accepted, or refused as the words say
+record Taken (fs : List Flow) (f : Flow) : Type 0 where
+  flow : flowCause f ≡ Accepted
+  rises : lastNumber fs < f .number
+  room : length fs < mostFlows
+
+module _ (fs : List Flow) (f : Flow) (t : Typed f) where
+  of-record : Taken fs f ⊎ OfRecord fs f (recordCause fs f)
+  unfolding recordCause fallsTo
+  of-record = go (eqb (f .number) 0) (leb (f .number) (lastNumber fs)) (acceptedBy (flowCause f)) (leb mostFlows (length fs)) refl refl refl refl
+    where
+      itself : acceptedBy (flowCause f) ≡ false → (f .number ≡ 0) ⊎ (lastNumber fs < f .number) → OfRecord fs f (flowCause f)
+      itself k o = by-itself (flowCause f) o (refused-never (flowCause f) k) (flow-exact f t (flowCause f) .0 refl)
+
+      go : (o p q r : Bool) → eqb (f .number) 0 ≡ o → leb (f .number) (lastNumber fs) ≡ p → acceptedBy (flowCause f) ≡ q →
+          leb mostFlows (length fs) ≡ r →
+          Taken fs f ⊎ OfRecord fs f (cond (not o && p) Malformed (cond q (cond r Full Accepted) (flowCause f)))
+      go false true q r i j k l = inr (not-rising (eqb-false _ _ i) (leb-true _ _ j))
+      go true p false r i j k l = inr (itself k (inl (eqb-true _ _ i)))
+      go false false false r i j k l = inr (itself k (inr (leb-false _ _ j)))
+      go true p true r i j k l =
+          let n = formed f t (accepted-only (flowCause f) k) .number .0 in
+          let z = eqb-true (f .number) 0 i in
+          absurd (omega arith)
+      go false false true true i j k l = inr (no-room (leb-false _ _ j) (formed f t (accepted-only (flowCause f) k)) (leb-true _ _ l))
+      go false false true false i j k l = inl (record { flow = accepted-only (flowCause f) k; rises = leb-false _ _ j; room = leb-false _ _ l })
+
+  rises-in : (f .number ≡ 0) ⊎ (lastNumber fs < f .number) → fallsTo (f .number) (lastNumber fs) ≡ false
+  rises-in (inl h) = sym (falls-zero (f .number) (lastNumber fs) h)
+  rises-in (inr h) = sym (falls-not (f .number) (lastNumber fs) h)
+
+  record-only : (c : Cause) → OfRecord fs f c → (recordCause fs f ≡ c) × (acceptedBy c ≡ false)
+  unfolding recordCause
+  record-only c (not-rising n h) = (rw (← falls-order (f .number) (lastNumber fs) n, le-leb _ _ h), refl)
+  record-only c (by-itself d o n x) = let e = not-accepted d n in (rw (rises-in o, flow-exact f t d .1 x, e), e)
+  record-only c (no-room h w g) = (rw (rises-in (inr h), formed-passes f t w, le-leb _ _ g), refl)
+
+-- ---- the records that are not refused, and one more
+each-snoc : {A : Type 0} (P : A → Type 0) (l : List A) (x : A) → Each P l → P x → Each P (l ++ (x ∷ []))
+each-snoc P [] x e p = each-more p each-none
+each-snoc P (y ∷ l) x (each-more q e) p = each-more q (each-snoc P l x e p)
+
+rising-snoc : (gs fs : List Flow) (f : Flow) → Rising (lastNumber fs) gs → lastNumber (fs ++ gs) < f .number → Rising (lastNumber fs) (gs ++ (f ∷ []))
+rising-snoc [] fs f r h = rising-more (rw (append-nil fs) at h) rising-none
+rising-snoc (g ∷ gs) fs f (rising-more i r) h =
+    rising-more i (rw (last-snoc fs g) at (rising-snoc gs (fs ++ (g ∷ [])) f (rw (last-snoc fs g) r) (rw (append-snoc fs g gs) h)))
+
+module _ {b : List ℕ} {fs : List Flow} {at : ℕ} {rest : List ℕ} (a : After b fs at rest) where
+  abbrev before : List ℕ
+  before = linksBytes (a .lmin) (a .lmax) ++ flowsBytes fs
+
+  after-more : {f : Flow} (s : StartsFlow rest f) → Taken fs f → After b (fs ++ (f ∷ [])) (at + flowRecord) (s .rest)
+  unfolding lastNumber
+  after-more {f} s k =
+      let x = linksBytes (a .lmin) (a .lmax) in
+      let m : before ++ flowBytes f ≡ x ++ flowsBytes (fs ++ (f ∷ [])) =
+      append-assoc x (flowsBytes fs) (flowBytes f) ∙ ap (λ (l : List ℕ). x ++ l) (sym (flows-snoc fs f)) in
+      let p : at + flowRecord ≡ length (before ++ flowBytes f) =
+      omega (arith, a .place-is, length-append before (flowBytes f), length-flow f (s .typed .nodes) (s .typed .costs)) in
+      record {
+        lmin = a .lmin;
+        lmax = a .lmax;
+        readable = record {
+          delays = a .readable .delays;
+          rising = rising-snoc fs [] f (a .readable .rising) (k .rises);
+          count = omega (arith, k .room, length-snoc fs f);
+          flows = each-snoc _ fs f (a .readable .flows) (k .flow);
+          typed = each-snoc _ fs f (a .readable .typed) (s .typed);
+        };
+        bytes =
+            a .bytes ∙ ap (λ (l : List ℕ). before ++ l) (s .bytes) ∙ sym (append-assoc before (flowBytes f) (s .rest)) ∙
+            ap (λ (l : List ℕ). l ++ s .rest) m;
+        place-is = p ∙ ap length m;
+      }
+
+-- ---- any bytes are in form, or one of their records is refused
+data Judged (b : List ℕ) : Type 0 where
+  in-form : InForm b → Judged b
+  unread : (c : Cause) (place : ℕ) → Unread b c place → Judged b
+
+module _ (b : List ℕ) (u : Bytes b) where
+  module _ {fs : List Flow} {at : ℕ} {rest : List ℕ} (a : After b fs at rest) where
+    other : (kindAt b at ≡ OfEnd → ⊥) → (kindAt b at ≡ OfFlow → ⊥) → Judged b
+    other n m = unread Malformed at (no-record fs at rest a (λ f s. m (flow-here b at (after-rest a) s)) (λ s. n (end-here b at (after-rest a) s)))
+
+    ended : (x : List ℕ) → rest ≡ endKind ∷ x → Judged b
+    unfolding planBytes
+    ended [] e =
+        in-form (record {
+          lmin = a .lmin;
+          lmax = a .lmax;
+          flows = fs;
+          readable = a .readable;
+          bytes = a .bytes ∙ ap (λ (l : List ℕ). before a ++ l) e;
+        })
+    ended (x ∷ y) e = unread Malformed (at + 1) (after-end fs at x y (subst (After b fs at) e a))
+
+    record-judged : ((f : Flow) (s : StartsFlow rest f) → Taken fs f → Judged b) → Judged b
+    record-judged next =
+        found b at (kindAt b at) refl
+        (λ g. other (λ h. impossible (cc)) (λ h. impossible (cc)))
+        (λ w g. let s = end-starts b at (after-rest a) w in ended (s .rest) (s .bytes))
+        (λ w g. other (λ h. impossible (cc)) (λ h. impossible (cc)))
+        (λ w g. let s = flow-starts b at (after-rest a) u w in go s (of-record fs (flowAt b at) (s .typed)))
+      where
+        go : StartsFlow rest (flowAt b at) → Taken fs (flowAt b at) ⊎ OfRecord fs (flowAt b at) (recordCause fs (flowAt b at)) → Judged b
+        go s (inl k) = next (flowAt b at) s k
+        go s (inr o) = unread _ at (of-flow fs at rest (flowAt b at) _ a s o)
+
+  after-judged : (room : ℕ) {fs : List Flow} {at : ℕ} {rest : List ℕ} → room + length fs ≡ mostFlows → After b fs at rest → Judged b
+  after-judged zero h a = record-judged a (λ f s k. absurd (omega (arith, k .room)))
+  after-judged (suc room) {fs} h a = record-judged a (λ f s k. after-judged room (omega (arith, length-snoc fs f)) (after-more a s k))
+
+  links-judged : (lmin lmax : ℕ) → StartsLinks b lmin lmax → Judged b
+  unfolding flowsBytes
+  links-judged lmin lmax s = go (delayCause lmin lmax) refl (delays-exact lmin lmax (delayCause lmin lmax) .0 refl)
+    where
+      go : (c : Cause) → delayCause lmin lmax ≡ c → OfDelays lmin lmax c → Judged b
+      go c e (delays-unfit n) = unread Delays 0 (unfit-links lmin lmax s n)
+      go c e (delays-fit h) =
+          after-judged mostFlows {fs = []} {at = linksRecord} {rest = s .rest} refl (record {
+            lmin = lmin;
+            lmax = lmax;
+            readable = readable-none lmin lmax e;
+            bytes = s .bytes;
+            place-is = refl;
+          })
+
+  judged : Judged b
+  judged =
+      found b 0 (kindAt b 0) refl
+      (λ g. no-first (λ h. impossible (cc)))
+      (λ w g. no-first (λ h. impossible (cc)))
+      (λ w g. links-judged _ _ (links-starts b u w))
+      (λ w g. no-first (λ h. impossible (cc)))
+    where
+      no-first : (kindAt b 0 ≡ OfLinks → ⊥) → Judged b
+      no-first n = unread Malformed 0 (no-links (λ l m s. n (links-here b l m s)))
+
+  -- ---- what the words say is given
+  gives : (c : Cause) (place : ℕ) → Unread b c place → readPlan b ≡ refused c place
+  unfolding unless
+  gives c place (no-links n) =
+      found b 0 (kindAt b 0) refl (plan-at-none b) (λ w g. plan-at-end b g) (λ w g. absurd (n _ _ (links-starts b u w))) (λ w g. plan-at-flow b g)
+  gives c place (unfit-links lmin lmax s n) =
+      plan-starts b lmin lmax s ∙ ap (λ (d : Cause). unless d 0 (readAfterLinks lmin lmax b)) (delays-exact lmin lmax Delays .1 (delays-unfit n))
+  gives c place (no-record fs at rest a n m) =
+      read-after a ∙
+      found b at (kindAt b at) refl (flows-at-none _ _ _ fs b at) (λ w g. absurd (m (end-starts b at (after-rest a) w)))
+      (λ w g. flows-at-links _ _ _ fs b at g)
+      (λ w g. absurd (n _ (flow-starts b at (after-rest a) u w)))
+  gives c place (of-flow fs at rest f d a s o) =
+      let q = record-only fs f (s .typed) d o in
+      let e : recordCause fs (flowAt b at) ≡ d = ap (recordCause fs) (flow-same b at (after-rest a) s) ∙ q .0 in
+      read-after a ∙ flows-at-flow _ _ _ fs b at (flow-here b at (after-rest a) s) ∙ rw (e, q .1)
+  gives c place (after-end fs at x y a) =
+      let s : StartsEnd (endKind ∷ x ∷ y) = record { rest = x ∷ y; bytes = refl } in
+      let h : at + 1 < length b = omega (arith, first-byte b at (after-rest a) endKind (x ∷ y) refl .1) in
+      read-after a ∙ flows-at-end _ _ _ fs b at (end-here b at (after-rest a) s) ∙ rw (lt-ltb (at + 1) (length b) h)
+
+  outcome-of : (c : Cause) (place : ℕ) → Unread b c place → readPlan b .outcome ≡ Refused c place
+  unfolding refused
+  outcome-of c place n = ap (λ (r : Reading). r .outcome) (gives c place n)
+
+  -- What is read is in form
+  pub plan-form : readPlan b .outcome ≡ Read → InForm b
+  plan-form h = go judged
+    where
+      go : Judged b → InForm b
+      go (in-form i) = i
+      go (unread c place n) = let e = outcome-of c place n in impossible (cc)
+
+  -- What is refused is refused as the words say, and exactly then
+  pub unread-exact : (c : Cause) (place : ℕ) → Exactly (readPlan b .outcome ≡ Refused c place) (Unread b c place)
+  unread-exact c place = (λ h. go h judged, outcome-of c place)
+    where
+      go : readPlan b .outcome ≡ Refused c place → Judged b → Unread b c place
+      go h (in-form i) = let e = ap (λ (r : Reading). r .outcome) (form-read b i) in impossible (cc)
+      go h (unread d at n) =
+          let e = outcome-of d at n in
+          let p : d ≡ c = cc in
+          let q : at ≡ place = cc in
+          rw (p, q) at n
