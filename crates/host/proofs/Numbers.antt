@@ -21,7 +21,7 @@ use Rattle.row.specs.declared.Found.the-variants.{Nothing}
 use Rattle.row.specs.Rows.{firstOf, placeOf, foundIn}
 use Rattle.plan.specs.Reading.{readPlan}
 use Rattle.plan.proofs.Refusals.{place-inside}
-use Rattle.plan.proofs.Promises.{bytes-fit}
+use Rattle.plan.proofs.Sets.{bytes-fit}
 use Rattle.table.specs.Calls.{askedBy, askedFor}
 use Rattle.table.specs.Made.{Made}
 use Rattle.table.proofs.Kept.{made-right}

@@ -20,7 +20,7 @@ use Rattle.table.specs.Calls.{askedFor}
 use Rattle.table.specs.Demands.{Present, Unused, Figured}
 use Rattle.table.proofs.Figures.{made-figured}
 use Rattle.plans.specs.Plans.{planAnswer}
-use Rattle.plan.proofs.Promises.{bytes-fit}
+use Rattle.plan.proofs.Sets.{bytes-fit}
 use Rattle.plans.proofs.Trips.{answer-made}
 use Rattle.host.specs.Host.{boundOf, codeOf, planCode, planBound}
 use Rattle.host.specs.Demands.{Judges, Bounds}

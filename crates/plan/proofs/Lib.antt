@@ -2,7 +2,8 @@
 pub mod Steps
 pub mod Puts
 pub mod Trips
-pub mod Unread
 pub mod Refusals
-pub mod Cases
+pub mod Unread
+pub mod Sets
 pub mod Promises
+pub mod Cases

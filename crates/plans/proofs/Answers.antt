@@ -23,7 +23,7 @@ use Rattle.plan.specs.declared.Reading.{Reading}
 use Rattle.plan.specs.Reading.{causeIn, placeIn, readPlan}
 use Rattle.plan.specs.Demands.{WasRead}
 use Rattle.plan.proofs.Outcome.{the-type}
-use Rattle.plan.proofs.Promises.{bytes-fit, read-proper}
+use Rattle.plan.proofs.Sets.{bytes-fit, read-proper}
 use Rattle.engine.specs.declared.Verdict.{Verdict}
 use Rattle.engine.specs.Verdicts.{noFigures, verdictOf}
 use Rattle.table.specs.Calls.{emptyTable}

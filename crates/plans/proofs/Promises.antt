@@ -21,7 +21,8 @@ use Rattle.plan.specs.declared.FlowSet.{FlowSet}
 use Rattle.plan.specs.declared.Written.{Written}
 use Rattle.plan.specs.Writing.{setBytes, writtenInto, bufferAfter}
 use Rattle.plan.specs.Demands.{WasRead}
-use Rattle.plan.proofs.Promises.{bytes-fit, read-proper, begins, written, writes-back}
+use Rattle.plan.proofs.Sets.{bytes-fit, read-proper}
+use Rattle.plan.proofs.Promises.{begins, written, writes-back}
 use Rattle.engine.specs.Verdicts.{verdictFrom, verdictOf}
 use Rattle.table.specs.Calls.{emptyTable}
 use Rattle.table.specs.Made.{Made}

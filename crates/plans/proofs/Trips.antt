@@ -21,7 +21,7 @@ use Rattle.plan.specs.declared.Outcome.the-variants.{Read, Refused}
 use Rattle.plan.specs.Reading.{causeIn, placeIn, readPlan}
 use Rattle.plan.specs.Writing.{setBytes}
 use Rattle.plan.proofs.Refusals.{place-inside}
-use Rattle.plan.proofs.Promises.{Proper, read-proper, write-read-set, read-write}
+use Rattle.plan.proofs.Sets.{Proper, read-proper, write-read-set, read-write}
 use Rattle.engine.specs.declared.Verdict.{Verdict}
 use Rattle.engine.specs.Verdicts.{refused, given, verdictFrom, verdictOf}
 use Rattle.flows.specs.Tests.{delayCause}
