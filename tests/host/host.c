@@ -76,6 +76,10 @@ static plan no_links = {END};
 static plan not_rising = {LINKS(1, 1), ALONE(2, 1, 10, 0, 60, 3), ALONE(2, 1, 20, 0, 60, 5), END};
 static plan byte_after_end = {LINKS(1, 1), SIXTEEN, END, END};
 
+/* Records before the set: a deadline that flow 1 cannot keep, in records that are all in order, and before one that is not. */
+static plan late = {LINKS(1, 1), ALONE(1, 1, 10, 0, 2, 3), ALONE(2, 1, 20, 0, 60, 5), END};
+static plan late_and_period_0 = {LINKS(1, 1), ALONE(1, 1, 10, 0, 2, 3), ALONE(2, 1, 0, 0, 60, 5), END};
+
 #define WHOLE(p) p, sizeof(p)
 
 /* RULES, host calls: number + 256 * flow + 65536 * place. */
@@ -112,6 +116,9 @@ static const struct {
     {"no link delays", WHOLE(no_links), 12},
     {"numbers not rising", WHOLE(not_rising), 12 + 65536 * 39},
     {"byte after the end", WHOLE(byte_after_end), 12 + 65536 * 550},
+    {"late flow", WHOLE(late), 10 + 256 * 1},
+    {"late flow, then a period 0", WHOLE(late_and_period_0), 3 + 65536 * 39},
+    {"late flow, no end", late, sizeof(late) - 1, 12 + 65536 * 73},
     {"case 4 without its end", case4, 73, 12 + 65536 * 73},
     {"case 4, second body short", case4, 72, 12 + 65536 * 39},
     {"empty plan", NULL, 0, 12},
@@ -161,6 +168,7 @@ static const struct {
     {"case 11, D 7", WHOLE(case11_10), 1, 0},
     {"case 11, D 7", WHOLE(case11_10), 2, 0},
     {"second flow's period 0", WHOLE(period_0), 1, 0},
+    {"late flow", WHOLE(late), 2, 0},
     {"case 4 without its end", case4, 73, 1, 0},
     {"empty plan", NULL, 0, 0, 0},
     {"empty plan", NULL, 0, 1, 0},
