@@ -19,8 +19,9 @@ use Rattle.flows.specs.WellFormed.{Each, each-more, Typed}
 use Rattle.row.specs.declared.Found.{Found}
 use Rattle.row.specs.declared.Found.the-variants.{Nothing}
 use Rattle.row.specs.Rows.{firstOf, placeOf, foundIn}
+use Rattle.records.specs.Bodies.{Bytes}
 use Rattle.plan.specs.Reading.{readPlan}
-use Rattle.plan.proofs.Refusals.{place-inside}
+use Rattle.plan.proofs.Unread.{place-inside}
 use Rattle.plan.proofs.Sets.{bytes-fit}
 use Rattle.table.specs.Calls.{askedBy, askedFor}
 use Rattle.table.specs.Made.{Made}
@@ -30,15 +31,15 @@ use Rattle.plans.proofs.Trips.{judged-place, in-turn, answer-made}
 use Rattle.host.specs.Host.{mostPlace, codeOf, boundOf, boundIn, planCode, planBound}
 
 -- ---- places
-pub answer-place : (b : List ℕ) → planAnswer b .place ≤ mostPlace
+pub answer-place : (b : List ℕ) → Bytes b → planAnswer b .place ≤ mostPlace
 unfolding refusedPlan
-answer-place b =
+answer-place b u =
     in-turn b
     (λ h e. subst (λ (a : Answer). a .place ≤ mostPlace) (sym e) (omega (arith, judged-place (readPlan b .set))))
-    (λ never e. subst (λ (a : Answer). a .place ≤ mostPlace) (sym e) (place-inside b .place .1))
+    (λ never e. subst (λ (a : Answer). a .place ≤ mostPlace) (sym e) (place-inside b u .place .1))
 
-pub place-fits : (b : List ℕ) (a : Answer) → a ≡ planAnswer b → a .place ≤ mostPlace
-place-fits b a e = subst (λ (q : Answer). q .place ≤ mostPlace) (sym e) (answer-place b)
+pub place-fits : (b : List ℕ) (a : Answer) → ((k : ℕ) → Fits w8 (getD b k 0)) → a ≡ planAnswer b → a .place ≤ mostPlace
+place-fits b a f e = subst (λ (q : Answer). q .place ≤ mostPlace) (sym e) (answer-place b (bytes-fit b f))
 
 pub coded : (b : List ℕ) (a : Answer) (r : ℕ) → a ≡ planAnswer b → r ≡ codeOf a → r ≡ planCode b
 unfolding planCode

@@ -37,12 +37,12 @@ module _ (n f p : ℕ) (h : n < 256) (g : f < 256) where
   high : (n + 256 * f + 65536 * p) / 65536 ≡ p
   high = omega arith
 
-pub judge-promise : (b : List ℕ) (a : Answer) (r : ℕ) → a ≡ planAnswer b → r ≡ codeOf a → (numberOf (a .cause) < 256) × (flowNamed (a .cause) < 256) → Judges b r
+pub judge-promise : (b : List ℕ) (a : Answer) (r : ℕ) → ((k : ℕ) → Fits w8 (getD b k 0)) → a ≡ planAnswer b → r ≡ codeOf a → (numberOf (a .cause) < 256) × (flowNamed (a .cause) < 256) → Judges b r
 unfolding planCode
-judge-promise b a r e g s =
+judge-promise b a r f e g s =
     subst (λ (q : ℕ). Judges b q) (sym (g ∙ ap codeOf e)) (record {
       accepted =
-          (λ z. accepted-only (planAnswer b .cause) (zero-accepted b z), λ z. accepted-zero b (ap acceptedBy z));
+          (λ z. accepted-only (planAnswer b .cause) (zero-accepted b z), λ z. accepted-zero b (bytes-fit b f) (ap acceptedBy z));
       number = low _ _ _ (t .0) (t .1);
       flow = middle _ _ _ (t .0) (t .1);
       place = high _ _ _ (t .0) (t .1);

@@ -32,13 +32,13 @@ module _ (b : List ℕ) where
   unfolding planCode
   zero-accepted e = eq-eqb (numberOf (planAnswer b .cause)) 0 (omega arith)
 
-  pub accepted-zero : acceptedBy (planAnswer b .cause) ≡ true → planCode b ≡ 0
+  pub accepted-zero : Bytes b → acceptedBy (planAnswer b .cause) ≡ true → planCode b ≡ 0
   unfolding planCode
-  accepted-zero h =
+  accepted-zero u h =
       let c = accepted-only (planAnswer b .cause) h in
       let n : numberOf (planAnswer b .cause) ≡ 0 = ap numberOf c in
       let f : flowNamed (planAnswer b .cause) ≡ 0 = ap flowNamed c in
-      omega (arith, accepted-place b h)
+      omega (arith, accepted-place b u h)
 
 -- ---- a flow's bound
 costs-some : (i : net.Flow) → InRange i → 0 < sumOf least (i .path)

@@ -2,7 +2,6 @@
 pub mod Steps
 pub mod Puts
 pub mod Trips
-pub mod Refusals
 pub mod Unread
 pub mod Sets
 pub mod Promises

@@ -18,9 +18,8 @@ use Rattle.plan.specs.declared.Written.the-variants.{Length, Refused}
 use Rattle.plan.specs.Reading.{readPlan}
 use Rattle.plan.specs.Writing.{setBytes, planLength, writtenInto, bufferAfter}
 use Rattle.plan.specs.Demands.{size, WasRead, WritesBack, SetRead, SetWritten}
-use Rattle.plan.proofs.Refusals.{place-inside}
 use Rattle.plan.proofs.Trips.{form-read, plan-long, plan-length}
-use Rattle.plan.proofs.Unread.{plan-form, unread-exact}
+use Rattle.plan.proofs.Unread.{place-inside, plan-form, unread-exact}
 use Rattle.plan.proofs.Sets.{bytes-fit, Proper, read-proper, read-write, write-read-set}
 
 -- ---- writing: what the buffer then holds
@@ -102,7 +101,7 @@ module _ (b : List ℕ) (u : Bytes b) where
         λ h old. writes-back (readPlan b .set) (read-proper (readPlan b .set) was-read) old b
         (read-write b u (readPlan b .set) (ap (λ (o : Outcome). record { outcome = o; set = readPlan b .set }) h));
     refused = unread-exact b u;
-    empty = place-inside b .empty;
+    empty = place-inside b u .empty;
   }
 
 pub read-promise : (b : List ℕ) → ((k : ℕ) → Fits w8 (getD b k 0)) → (r : Reading) → r ≡ readPlan b → SetRead b r

@@ -21,9 +21,8 @@ use Rattle.plan.specs.declared.Reading.{Reading}
 use Rattle.plan.specs.Reading.{readPlan}
 use Rattle.plan.specs.Writing.{planBytes, setBytes}
 use Rattle.plan.specs.Demands.{WasRead}
-use Rattle.plan.proofs.Refusals.{place-inside}
 use Rattle.plan.proofs.Trips.{form-read, write-read}
-use Rattle.plan.proofs.Unread.{plan-form}
+use Rattle.plan.proofs.Unread.{place-inside, plan-form}
 
 pub bytes-fit : (b : List ℕ) → ((k : ℕ) → Fits w8 (getD b k 0)) → Bytes b
 bytes-fit b f k = f k .fits
@@ -50,7 +49,7 @@ read-proper s w = subst Proper (w .given) (go (readPlan (w .bytes) .outcome) ref
         let i = plan-form (w .bytes) (w .fit) e in
         subst (λ (r : Reading). Proper (r .set)) (sym (form-read (w .bytes) i)) (proper-of (i .lmin) (i .lmax) (i .flows) (i .readable))
     go (Refused cause place) e =
-        subst Proper (sym (place-inside (w .bytes) .empty (λ g. impossible (cc)))) (proper-of 0 0 [] (readable-none 0 0 refl))
+        subst Proper (sym (place-inside (w .bytes) (w .fit) .empty (λ g. impossible (cc)))) (proper-of 0 0 [] (readable-none 0 0 refl))
 
 -- What is read and then written is the bytes that were read
 pub read-write : (b : List ℕ) → Bytes b → (s : FlowSet) → readPlan b ≡ record { outcome = Read; set = s } → setBytes s ≡ b

@@ -201,7 +201,7 @@ pub write-read : (lmin lmax : ℕ) (fs : List Flow) → Readable lmin lmax fs �
 write-read lmin lmax fs s = form-read (planBytes lmin lmax fs) (record { lmin = lmin; lmax = lmax; flows = fs; readable = s; bytes = refl })
 
 -- ---- the length of a plan
-flows-long : (fs : List Flow) → Each Typed fs → length (flowsBytes fs) ≡ flowRecord * length fs
+pub flows-long : (fs : List Flow) → Each Typed fs → length (flowsBytes fs) ≡ flowRecord * length fs
 unfolding flowsBytes
 flows-long [] e = refl
 flows-long (f ∷ fs) (each-more t e) =

@@ -1,5 +1,5 @@
 -- Any bytes are a plan in form, or have a first record that is refused; reading gives the set of the one, of the other the refusal and the place.
-use Prim.Native.Nat.{ℕ, zero, suc, _+_, _<_}
+use Prim.Native.Nat.{ℕ, zero, suc, _+_, _≤_, _<_}
 use mathlib.Core.Path.{_≡_, refl, sym, ap, _∙_, subst}
 use mathlib.Core.Bool.{Bool, true, false, cond, not, _&&_}
 use mathlib.Core.List.{List, [], _∷_, _++_, append-nil, append-assoc}
@@ -23,8 +23,8 @@ use Rattle.reader.specs.declared.Kind.the-variants.{OfLinks, OfFlow, OfEnd}
 use Rattle.reader.specs.Places.{kindAt}
 use Rattle.plan.specs.declared.Reading.{Reading}
 use Rattle.plan.specs.declared.Outcome.the-variants.{Read, Refused}
-use Rattle.plan.specs.Reading.{flowAt, refused, unless, fallsTo, recordCause, readAfterLinks, readPlan}
-use Rattle.plan.specs.Writing.{linksBytes, flowBytes, flowsBytes, planBytes}
+use Rattle.plan.specs.Reading.{causeIn, placeIn, emptySet, flowAt, refused, unless, fallsTo, recordCause, readAfterLinks, readPlan}
+use Rattle.plan.specs.Writing.{linksBytes, flowBytes, flowsBytes, planBytes, planLength}
 use Rattle.plan.specs.Demands.{InForm, StartsLinks, StartsFlow, StartsEnd, After, OfRecord, not-rising, by-itself, no-room, Unread, no-links, unfit-links, no-record, of-flow, after-end}
 use Rattle.flows.proofs.Causes.{accepted-only, not-accepted, refused-never}
 use Rattle.flows.proofs.Passed.{delays-exact, flow-exact, formed, formed-passes}
@@ -34,7 +34,7 @@ use Rattle.records.proofs.Writing.{length-flow}
 use Rattle.reader.proofs.Places.{found, impossible}
 use Rattle.plan.proofs.Steps.{falls-zero, falls-not, falls-order, flows-at-none, flows-at-links, flows-at-end, flows-at-flow, plan-at-flow, plan-at-end, plan-at-none}
 use Rattle.plan.proofs.Puts.{flows-snoc}
-use Rattle.plan.proofs.Trips.{last-snoc, first-byte, end-here, end-starts, flow-here, flow-same, flow-starts, links-starts, links-here, plan-starts, after-rest, read-after, form-read}
+use Rattle.plan.proofs.Trips.{last-snoc, first-byte, end-here, end-starts, flow-here, flow-same, flow-starts, links-starts, links-here, plan-starts, after-rest, read-after, form-read, flows-long}
 
 -- ---- a flow's record: accepted, or refused as the words say
 record Taken (fs : List Flow) (f : Flow) : Type 0 where
@@ -111,10 +111,23 @@ module _ {b : List ℕ} {fs : List Flow} {at : ℕ} {rest : List ℕ} (a : After
         place-is = p ∙ ap length m;
       }
 
+  after-inside : (at + length rest ≡ length b) × (at + 1 ≤ planLength mostFlows)
+  after-inside =
+      let n = length-append before rest in
+      let m = length-append (linksBytes (a .lmin) (a .lmax)) (flowsBytes fs) in
+      let l = flows-long fs (a .readable .typed) in
+      (omega (arith, a .place-is, ap length (a .bytes)), omega (arith, a .place-is, a .readable .count))
+
 -- ---- any bytes are in form, or one of their records is refused
 data Judged (b : List ℕ) : Type 0 where
   in-form : InForm b → Judged b
   unread : (c : Cause) (place : ℕ) → Unread b c place → Judged b
+
+-- what goes with a refusal
+pub record Inside (b : List ℕ) (r : Reading) : Type 0 where
+  pub place : (placeIn (r .outcome) ≤ length b) × (placeIn (r .outcome) ≤ planLength mostFlows)
+  pub refuses : (r .outcome ≡ Read → ⊥) → acceptedBy (causeIn (r .outcome)) ≡ false
+  pub empty : (r .outcome ≡ Read → ⊥) → r .set ≡ emptySet
 
 module _ (b : List ℕ) (u : Bytes b) where
   module _ {fs : List Flow} {at : ℕ} {rest : List ℕ} (a : After b fs at rest) where
@@ -196,9 +209,36 @@ module _ (b : List ℕ) (u : Bytes b) where
       let h : at + 1 < length b = omega (arith, first-byte b at (after-rest a) endKind (x ∷ y) refl .1) in
       read-after a ∙ flows-at-end _ _ _ fs b at (end-here b at (after-rest a) s) ∙ rw (lt-ltb (at + 1) (length b) h)
 
+  -- the cause refuses; the place is within the plan or at its end, and within the longest plan whatever is read
+  refuses : (c : Cause) (place : ℕ) → Unread b c place → acceptedBy c ≡ false
+  refuses c place (no-links n) = refl
+  refuses c place (unfit-links lmin lmax s n) = refl
+  refuses c place (no-record fs at rest a n m) = refl
+  refuses c place (of-flow fs at rest f d a s o) = record-only fs f (s .typed) d o .1
+  refuses c place (after-end fs at x y a) = refl
+
+  inside : (c : Cause) (place : ℕ) → Unread b c place → (place ≤ length b) × (place ≤ planLength mostFlows)
+  inside c place (no-links n) = (omega arith, omega arith)
+  inside c place (unfit-links lmin lmax s n) = (omega arith, omega arith)
+  inside c place (no-record fs at rest a n m) = let h = after-inside a in (omega (arith, h .0), omega (arith, h .1))
+  inside c place (of-flow fs at rest f d a s o) = let h = after-inside a in (omega (arith, h .0), omega (arith, h .1))
+  inside c place (after-end fs at x y a) = let h = after-inside a in (omega (arith, h .0), omega (arith, h .1))
+
   outcome-of : (c : Cause) (place : ℕ) → Unread b c place → readPlan b .outcome ≡ Refused c place
   unfolding refused
   outcome-of c place n = ap (λ (r : Reading). r .outcome) (gives c place n)
+
+  -- With a refusal goes the empty set
+  pub place-inside : Inside b (readPlan b)
+  unfolding refused
+  place-inside = go judged
+    where
+      go : Judged b → Inside b (readPlan b)
+      go (in-form i) =
+          subst (Inside b) (sym (form-read b i))
+          (record { place = (omega arith, omega arith); refuses = λ never. absurd (never refl); empty = λ never. absurd (never refl) })
+      go (unread c place n) =
+          subst (Inside b) (sym (gives c place n)) (record { place = inside c place n; refuses = λ never. refuses c place n; empty = λ never. refl })
 
   -- What is read is in form
   pub plan-form : readPlan b .outcome ≡ Read → InForm b

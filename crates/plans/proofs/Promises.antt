@@ -100,7 +100,7 @@ module _ (b : List ℕ) (u : Bytes b) where
   read = record {
     accepted =
         λ a. (
-          accepted-place b (ap acceptedBy a),
+          accepted-place b u (ap acceptedBy a),
           λ old. writes-back (setOf t) (right-proper t (made-right t (answer-made b u))) old b (read-write-table b u (ap acceptedBy a)),
         );
     refused = λ never. subst Empty (sym (refused-table b (not-accepted (planAnswer b .cause) never))) none;

@@ -20,7 +20,7 @@ use Rattle.plan.specs.declared.Outcome.{Outcome}
 use Rattle.plan.specs.declared.Outcome.the-variants.{Read, Refused}
 use Rattle.plan.specs.Reading.{causeIn, placeIn, readPlan}
 use Rattle.plan.specs.Writing.{setBytes}
-use Rattle.plan.proofs.Refusals.{place-inside}
+use Rattle.plan.proofs.Unread.{place-inside}
 use Rattle.plan.proofs.Sets.{Proper, read-proper, write-read-set, read-write}
 use Rattle.engine.specs.declared.Verdict.{Verdict}
 use Rattle.engine.specs.Verdicts.{refused, given, verdictFrom, verdictOf}
@@ -129,18 +129,6 @@ module _ (b : List ℕ) where
       go (Refused cause place) e g =
           is-refused (λ h. impossible (cc)) (g ∙ ap (λ (o : Outcome). refusedPlan (causeIn o) (placeIn o)) (sym e))
 
-  refuses : (readPlan b .outcome ≡ Read → ⊥) → planAnswer b ≡ refusedPlan (causeIn (readPlan b .outcome)) (placeIn (readPlan b .outcome)) →
-      acceptedBy (planAnswer b .cause) ≡ false
-  unfolding refusedPlan
-  refuses never e = ap (λ (a : Answer). acceptedBy (a .cause)) e ∙ place-inside b .refuses never
-
-  -- what holds of the set's answer holds of the plan's, if it is accepted
-  through : (P : Answer → Type 0) → acceptedBy (planAnswer b .cause) ≡ true →
-      (readPlan b .outcome ≡ Read → acceptedBy (setAnswer s .cause) ≡ true → P (setAnswer s)) → P (planAnswer b)
-  through P h f =
-      in-turn (λ g e. subst P (sym e) (f g (subst (λ (a : Answer). acceptedBy (a .cause) ≡ true) e h)))
-      (λ never e. absurd (false≢true (sym (refuses never e) ∙ h)))
-
   -- no flows and no link delays if the plan is refused. RULES, tables
   pub refused-table : acceptedBy (planAnswer b .cause) ≡ false → planAnswer b .table ≡ emptyTable 0 0
   unfolding refusedPlan
@@ -148,12 +136,21 @@ module _ (b : List ℕ) where
       in-turn (λ g e. ap (λ (a : Answer). a .table) e ∙ judged-empty s (subst (λ (a : Answer). acceptedBy (a .cause) ≡ false) e h))
       (λ never e. ap (λ (a : Answer). a .table) e)
 
-  pub accepted-place : acceptedBy (planAnswer b .cause) ≡ true → planAnswer b .place ≡ 0
-  accepted-place h = through (λ a. a .place ≡ 0) h (λ g i. judged-place s)
-
   module _ (u : Bytes b) where
-    read-set-proper : Proper s
-    read-set-proper = read-proper s (record { bytes = b; fit = u; given = refl })
+    refuses : (readPlan b .outcome ≡ Read → ⊥) → planAnswer b ≡ refusedPlan (causeIn (readPlan b .outcome)) (placeIn (readPlan b .outcome)) →
+        acceptedBy (planAnswer b .cause) ≡ false
+    unfolding refusedPlan
+    refuses never e = ap (λ (a : Answer). acceptedBy (a .cause)) e ∙ place-inside b u .refuses never
+
+    -- what holds of the set's answer holds of the plan's, if it is accepted
+    through : (P : Answer → Type 0) → acceptedBy (planAnswer b .cause) ≡ true →
+        (readPlan b .outcome ≡ Read → acceptedBy (setAnswer s .cause) ≡ true → P (setAnswer s)) → P (planAnswer b)
+    through P h f =
+        in-turn (λ g e. subst P (sym e) (f g (subst (λ (a : Answer). acceptedBy (a .cause) ≡ true) e h)))
+        (λ never e. absurd (false≢true (sym (refuses never e) ∙ h)))
+
+    pub accepted-place : acceptedBy (planAnswer b .cause) ≡ true → planAnswer b .place ≡ 0
+    accepted-place h = through (λ a. a .place ≡ 0) h (λ g i. judged-place s)
 
     -- Writing a table read from an accepted plan gives its bytes
     pub read-write-table : acceptedBy (planAnswer b .cause) ≡ true → tableBytes (planAnswer b .table) ≡ b
@@ -165,5 +162,5 @@ module _ (b : List ℕ) where
     pub answer-made : Made (planAnswer b .table)
     unfolding freshAnswer unless answered delayCause refusedPlan
     answer-made =
-        in-turn (λ g e. subst (λ (a : Answer). Made (a .table)) (sym e) (set-made s read-set-proper))
+        in-turn (λ g e. subst (λ (a : Answer). Made (a .table)) (sym e) (set-made s (read-proper s (record { bytes = b; fit = u; given = refl }))))
         (λ never e. subst (λ (a : Answer). Made (a .table)) (sym e) (by-fresh 0 0))

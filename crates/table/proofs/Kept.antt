@@ -38,7 +38,7 @@ pub record Right (t : Table) : Type 0 where
   pub accepted : judged (tableNet t) ≡ net.Given givens
   pub figures : t .figures ≡ given givens .figures
 
-pub right-of : (t : Table) (fs : List Flow) (gs : List net.Figures) → t .row ≡ rowOf fs → Readable (t .lmin) (t .lmax) fs →
+right-of : (t : Table) (fs : List Flow) (gs : List net.Figures) → t .row ≡ rowOf fs → Readable (t .lmin) (t .lmax) fs →
     judged (netFrom (t .lmin) (t .lmax) fs) ≡ net.Given gs → t .figures ≡ given gs .figures → Right t
 right-of t fs gs e k j g =
     let h : held (t .row) ≡ fs = ap held e ∙ held-rowOf fs in

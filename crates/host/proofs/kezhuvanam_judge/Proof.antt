@@ -13,10 +13,10 @@ read-plan-requires : tie.Need-read-plan-requires
 read-plan-requires c κs = search needs
 
 code-requires : tie.Need-code-requires
-code-requires c κs = search place-fits
+code-requires c κs = search (place-fits, needs)
 
 returns : tie.Need-returns
-returns c = (search coded, search judge-promise)
+returns c = (search coded, search (judge-promise, needs))
 
 pub kezhuvanam-judge-spec : {M : Type 1} → statement M
 kezhuvanam-judge-spec = tie.close (tie.spec read-plan-requires code-requires returns)
