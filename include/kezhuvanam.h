@@ -30,7 +30,7 @@ extern "C" {
 
    The place of 1, 2, 3, 4, 6 and 12 is the offset in the plan of the kind byte of the record that is refused; or the plan's length, if no kind byte
    is left where a record must stand; or the offset of the byte after the end record, if there is one. The place of 7 to 10, which are of the
-   whole set, is 0. 5 and 11 are not given.
+   whole set, is 0: all records were read, so such a plan may be kept unfinished and judged again once it is changed. 5 and 11 are not given.
 
    1   Lmin > Lmax or Lmax > 4,095
    2   flow number 0

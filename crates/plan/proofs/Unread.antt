@@ -119,9 +119,9 @@ module _ {b : List ℕ} {fs : List Flow} {at : ℕ} {rest : List ℕ} (a : After
       (omega (arith, a .place-is, ap length (a .bytes)), omega (arith, a .place-is, a .readable .count))
 
 -- ---- any bytes are in form, or one of their records is refused
-data Judged (b : List ℕ) : Type 0 where
-  in-form : InForm b → Judged b
-  unread : (c : Cause) (place : ℕ) → Unread b c place → Judged b
+data Decided (b : List ℕ) : Type 0 where
+  in-form : InForm b → Decided b
+  unread : (c : Cause) (place : ℕ) → Unread b c place → Decided b
 
 -- what goes with a refusal
 pub record Inside (b : List ℕ) (r : Reading) : Type 0 where
@@ -131,10 +131,10 @@ pub record Inside (b : List ℕ) (r : Reading) : Type 0 where
 
 module _ (b : List ℕ) (u : Bytes b) where
   module _ {fs : List Flow} {at : ℕ} {rest : List ℕ} (a : After b fs at rest) where
-    other : (kindAt b at ≡ OfEnd → ⊥) → (kindAt b at ≡ OfFlow → ⊥) → Judged b
+    other : (kindAt b at ≡ OfEnd → ⊥) → (kindAt b at ≡ OfFlow → ⊥) → Decided b
     other n m = unread Malformed at (no-record fs at rest a (λ f s. m (flow-here b at (after-rest a) s)) (λ s. n (end-here b at (after-rest a) s)))
 
-    ended : (x : List ℕ) → rest ≡ endKind ∷ x → Judged b
+    ended : (x : List ℕ) → rest ≡ endKind ∷ x → Decided b
     unfolding planBytes
     ended [] e =
         in-form (record {
@@ -146,30 +146,30 @@ module _ (b : List ℕ) (u : Bytes b) where
         })
     ended (x ∷ y) e = unread Malformed (at + 1) (after-end fs at x y (subst (After b fs at) e a))
 
-    record-judged : ((f : Flow) (s : StartsFlow rest f) → Taken fs f → Judged b) → Judged b
-    record-judged next =
+    record-decided : ((f : Flow) (s : StartsFlow rest f) → Taken fs f → Decided b) → Decided b
+    record-decided next =
         found b at (kindAt b at) refl
         (λ g. other (λ h. impossible (cc)) (λ h. impossible (cc)))
         (λ w g. let s = end-starts b at (after-rest a) w in ended (s .rest) (s .bytes))
         (λ w g. other (λ h. impossible (cc)) (λ h. impossible (cc)))
         (λ w g. let s = flow-starts b at (after-rest a) u w in go s (of-record fs (flowAt b at) (s .typed)))
       where
-        go : StartsFlow rest (flowAt b at) → Taken fs (flowAt b at) ⊎ OfRecord fs (flowAt b at) (recordCause fs (flowAt b at)) → Judged b
+        go : StartsFlow rest (flowAt b at) → Taken fs (flowAt b at) ⊎ OfRecord fs (flowAt b at) (recordCause fs (flowAt b at)) → Decided b
         go s (inl k) = next (flowAt b at) s k
         go s (inr o) = unread _ at (of-flow fs at rest (flowAt b at) _ a s o)
 
-  after-judged : (room : ℕ) {fs : List Flow} {at : ℕ} {rest : List ℕ} → room + length fs ≡ mostFlows → After b fs at rest → Judged b
-  after-judged zero h a = record-judged a (λ f s k. absurd (omega (arith, k .room)))
-  after-judged (suc room) {fs} h a = record-judged a (λ f s k. after-judged room (omega (arith, length-snoc fs f)) (after-more a s k))
+  after-decided : (room : ℕ) {fs : List Flow} {at : ℕ} {rest : List ℕ} → room + length fs ≡ mostFlows → After b fs at rest → Decided b
+  after-decided zero h a = record-decided a (λ f s k. absurd (omega (arith, k .room)))
+  after-decided (suc room) {fs} h a = record-decided a (λ f s k. after-decided room (omega (arith, length-snoc fs f)) (after-more a s k))
 
-  links-judged : (lmin lmax : ℕ) → StartsLinks b lmin lmax → Judged b
+  links-decided : (lmin lmax : ℕ) → StartsLinks b lmin lmax → Decided b
   unfolding flowsBytes
-  links-judged lmin lmax s = go (delayCause lmin lmax) refl (delays-exact lmin lmax (delayCause lmin lmax) .0 refl)
+  links-decided lmin lmax s = go (delayCause lmin lmax) refl (delays-exact lmin lmax (delayCause lmin lmax) .0 refl)
     where
-      go : (c : Cause) → delayCause lmin lmax ≡ c → OfDelays lmin lmax c → Judged b
+      go : (c : Cause) → delayCause lmin lmax ≡ c → OfDelays lmin lmax c → Decided b
       go c e (delays-unfit n) = unread Delays 0 (unfit-links lmin lmax s n)
       go c e (delays-fit h) =
-          after-judged mostFlows {fs = []} {at = linksRecord} {rest = s .rest} refl (record {
+          after-decided mostFlows {fs = []} {at = linksRecord} {rest = s .rest} refl (record {
             lmin = lmin;
             lmax = lmax;
             readable = readable-none lmin lmax e;
@@ -177,15 +177,15 @@ module _ (b : List ℕ) (u : Bytes b) where
             place-is = refl;
           })
 
-  judged : Judged b
-  judged =
+  decided : Decided b
+  decided =
       found b 0 (kindAt b 0) refl
       (λ g. no-first (λ h. impossible (cc)))
       (λ w g. no-first (λ h. impossible (cc)))
-      (λ w g. links-judged _ _ (links-starts b u w))
+      (λ w g. links-decided _ _ (links-starts b u w))
       (λ w g. no-first (λ h. impossible (cc)))
     where
-      no-first : (kindAt b 0 ≡ OfLinks → ⊥) → Judged b
+      no-first : (kindAt b 0 ≡ OfLinks → ⊥) → Decided b
       no-first n = unread Malformed 0 (no-links (λ l m s. n (links-here b l m s)))
 
   -- ---- what the words say is given
@@ -231,9 +231,9 @@ module _ (b : List ℕ) (u : Bytes b) where
   -- With a refusal goes the empty set
   pub place-inside : Inside b (readPlan b)
   unfolding refused
-  place-inside = go judged
+  place-inside = go decided
     where
-      go : Judged b → Inside b (readPlan b)
+      go : Decided b → Inside b (readPlan b)
       go (in-form i) =
           subst (Inside b) (sym (form-read b i))
           (record { place = (omega arith, omega arith); refuses = λ never. absurd (never refl); empty = λ never. absurd (never refl) })
@@ -242,17 +242,17 @@ module _ (b : List ℕ) (u : Bytes b) where
 
   -- What is read is in form
   pub plan-form : readPlan b .outcome ≡ Read → InForm b
-  plan-form h = go judged
+  plan-form h = go decided
     where
-      go : Judged b → InForm b
+      go : Decided b → InForm b
       go (in-form i) = i
       go (unread c place n) = let e = outcome-of c place n in impossible (cc)
 
   -- What is refused is refused as the words say, and exactly then
   pub unread-exact : (c : Cause) (place : ℕ) → Exactly (readPlan b .outcome ≡ Refused c place) (Unread b c place)
-  unread-exact c place = (λ h. go h judged, outcome-of c place)
+  unread-exact c place = (λ h. go h decided, outcome-of c place)
     where
-      go : readPlan b .outcome ≡ Refused c place → Judged b → Unread b c place
+      go : readPlan b .outcome ≡ Refused c place → Decided b → Unread b c place
       go h (in-form i) = let e = ap (λ (r : Reading). r .outcome) (form-read b i) in impossible (cc)
       go h (unread d at n) =
           let e = outcome-of d at n in

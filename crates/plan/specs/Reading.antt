@@ -23,7 +23,7 @@ use Rattle.plan.specs.declared.Reading.{Reading}
 use Rattle.plan.specs.declared.Outcome.{Outcome}
 use Rattle.plan.specs.declared.Outcome.the-variants.{Read, Refused}
 
--- the cause and the place that an outcome stands for; 0 is no refusal's number, and its place
+-- the cause and the place that an outcome stands for
 abbrev pub causeIn : Outcome → Cause
 causeIn Read = Accepted
 causeIn (Refused cause place) = cause

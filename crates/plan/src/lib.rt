@@ -15,7 +15,7 @@ ghost use Rattle.plan.specs.Reading.{causeIn, placeIn, flowAt, refused, 
 ghost use Rattle.plan.specs.Writing.{linksBytes, flowBytes, flowsBytes, writtenInto, bufferAfter};
 ghost use Rattle.plan.specs.Demands.{WasRead, SetRead, SetWritten};
 
-// What a plan lists: link delays, and flows that passed refusals 1 to 4 and 6 one by one. What they are together nobody has judged.
+// What a plan lists: link delays and flows, tested one by one. Nobody has judged them together.
 pub struct FlowSet {
     pub lmin: u16,
     pub lmax: u16,
