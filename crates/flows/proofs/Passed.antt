@@ -280,6 +280,9 @@ module _ (lmin lmax : ℕ) where
       go : OfDelays lmin lmax Accepted → DelaysFit lmin lmax
       go (delays-fit h) = h
 
+  pub delays-passes : DelaysFit lmin lmax → delayCause lmin lmax ≡ Accepted
+  delays-passes h = delays-exact Accepted .1 (delays-fit h)
+
 -- ---- what the formula needs
 pub each-member : {A : Type 0} (P : A → Type 0) (l : List A) {x : A} → Each P l → List·Memᴰ x l → P x
 each-member P [] e m = absurd (List·Memᴰ·not-nil m)

@@ -2,13 +2,13 @@
 use Prim.Native.Nat.{ℕ}
 use mathlib.Core.Path.{_≡_, refl, sym, ap, _∙_, subst}
 use mathlib.Core.List.{List, []}
+use native.Mathlib.Omega.{arith}
 use lib.ListN.{getD}
 use mir.Val.{Fits}
 use mir.Syntax.{w8}
 use Rattle.flows.specs.declared.Flow.{Flow}
 use Rattle.flows.specs.declared.Row.{Row}
 use Rattle.flows.specs.Lists.{held, rowOf}
-use Rattle.flows.specs.Tests.{delayCause}
 use Rattle.row.specs.Sets.{Readable}
 use Rattle.row.proofs.Arrays.{held-rowOf}
 use Rattle.row.proofs.Valid.{readable-none}
@@ -41,7 +41,6 @@ proper-of lmin lmax fs r = record {
 
 -- the empty one of a refused reading too
 pub read-proper : (s : FlowSet) → WasRead s → Proper s
-unfolding delayCause
 read-proper s w = subst Proper (w .given) (go (readPlan (w .bytes) .outcome) refl)
   where
     go : (o : Outcome) → readPlan (w .bytes) .outcome ≡ o → Proper (readPlan (w .bytes) .set)
@@ -49,7 +48,7 @@ read-proper s w = subst Proper (w .given) (go (readPlan (w .bytes) .outcome) ref
         let i = plan-form (w .bytes) (w .fit) e in
         subst (λ (r : Reading). Proper (r .set)) (sym (form-read (w .bytes) i)) (proper-of (i .lmin) (i .lmax) (i .flows) (i .readable))
     go (Refused cause place) e =
-        subst Proper (sym (place-inside (w .bytes) (w .fit) .empty (λ g. impossible (cc)))) (proper-of 0 0 [] (readable-none 0 0 refl))
+        subst Proper (sym (place-inside (w .bytes) (w .fit) .empty (λ g. impossible (cc)))) (proper-of 0 0 [] (readable-none 0 0 (omega arith, omega arith)))
 
 -- What is read and then written is the bytes that were read
 pub read-write : (b : List ℕ) → Bytes b → (s : FlowSet) → readPlan b ≡ record { outcome = Read; set = s } → setBytes s ≡ b

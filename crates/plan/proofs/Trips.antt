@@ -12,8 +12,8 @@ use Rattle.flows.specs.declared.Flow.{Flow}
 use Rattle.flows.specs.declared.Cause.{Cause}
 use Rattle.flows.specs.declared.Cause.the-variants.{Accepted}
 use Rattle.flows.specs.Lists.{mostFlows, noFlow, rowOf}
-use Rattle.flows.specs.Tests.{delayCause, flowCause}
-use Rattle.flows.specs.WellFormed.{Each, each-more, Typed}
+use Rattle.flows.specs.Tests.{delayCause}
+use Rattle.flows.specs.WellFormed.{WellFormed, Each, each-more, Typed}
 use Rattle.row.specs.Rows.{lastNumber, Rising, rising-more}
 use Rattle.records.specs.declared.Links.{Links}
 use Rattle.records.specs.Kinds.{linksKind, linksBody, linksRecord, flowKind, flowBody, flowRecord, endKind}
@@ -24,7 +24,7 @@ use Rattle.plan.specs.Reading.{flowAt, linksAt, listed, unless, recordCa
 use Rattle.plan.specs.Writing.{linksBytes, flowBytes, flowsBytes, planBytes, planLength}
 use Rattle.plan.specs.Demands.{InForm, StartsLinks, StartsFlow, StartsEnd, After}
 use Rattle.row.specs.Sets.{Readable}
-use Rattle.flows.proofs.Passed.{delays-formed}
+use Rattle.flows.proofs.Passed.{delays-passes, formed-passes}
 use Rattle.row.proofs.Arrays.{length-snoc}
 use Rattle.records.proofs.Writing.{length-flow}
 use Rattle.records.proofs.RoundTrip.{read-typed, flow-back, links-back, flow-again, links-again}
@@ -135,9 +135,9 @@ last-snoc fs f =
     let n : length (fs ++ (f ∷ [])) - 1 ≡ length fs = omega (arith, length-snoc fs f) in
     ap (λ (i : ℕ). getD (fs ++ (f ∷ [])) i noFlow .number) n ∙ ap (λ (g : Flow). g .number) (getD-append-seam fs f [] noFlow)
 
-accepted-record : (fs : List Flow) (f : Flow) → lastNumber fs < f .number → length fs < mostFlows → flowCause f ≡ Accepted → recordCause fs f ≡ Accepted
+accepted-record : (fs : List Flow) (f : Flow) → lastNumber fs < f .number → length fs < mostFlows → Typed f → WellFormed f → recordCause fs f ≡ Accepted
 unfolding recordCause
-accepted-record fs f h g e = rw (← falls-not (f .number) (lastNumber fs) h, e, lt-leb mostFlows (length fs) g)
+accepted-record fs f h g t w = rw (← falls-not (f .number) (lastNumber fs) h, formed-passes f t w, lt-leb mostFlows (length fs) g)
 
 -- a flow's record that is accepted
 goes-on : (room next lmin lmax : ℕ) (fs : List Flow) (b : List ℕ) (at : ℕ) (f : Flow) → kindAt b at ≡ OfFlow → flowAt b at ≡ f →
@@ -148,7 +148,7 @@ goes-on room next lmin lmax fs b at f here same good more = flows-at-flow room l
 
 -- after flows that are not refused, reading goes on behind their records
 read-flows : (gs fs : List Flow) (b post : List ℕ) (at lmin lmax : ℕ) → drop at b ≡ flowsBytes gs ++ post →
-    Rising (lastNumber fs) gs → length fs + length gs ≤ mostFlows → Each (λ f. flowCause f ≡ Accepted) gs → Each Typed gs →
+    Rising (lastNumber fs) gs → length fs + length gs ≤ mostFlows → Each WellFormed gs → Each Typed gs →
     readFlows (mostFlows - length fs) lmin lmax fs b at ≡
     readFlows (mostFlows - length (fs ++ gs)) lmin lmax (fs ++ gs) b (at + length (flowsBytes gs))
 unfolding flowsBytes
@@ -162,7 +162,7 @@ read-flows (g ∷ gs) fs b post at lmin lmax s (rising-more j r) h (each-more e 
     let l : length (fs ++ (g ∷ [])) + length gs ≤ mostFlows = omega (arith, length-snoc fs g) in
     let v : Rising (lastNumber (fs ++ (g ∷ []))) gs = rw (last-snoc fs g) r in
     let ih = read-flows gs (fs ++ (g ∷ [])) b post (at + flowRecord) lmin lmax (flow-next b at s z) v l c t in
-    goes-on _ _ lmin lmax fs b at g (flow-here b at s z) (flow-same b at s z) (accepted-record fs g j (omega arith) e) more ∙
+    goes-on _ _ lmin lmax fs b at g (flow-here b at s z) (flow-same b at s z) (accepted-record fs g j (omega arith) u e) more ∙
     rw (append-snoc fs g gs, p) at ih
 
 module _ {b : List ℕ} {fs : List Flow} {place : ℕ} {rest : List ℕ} (a : After b fs place rest) where
@@ -174,13 +174,13 @@ module _ {b : List ℕ} {fs : List Flow} {place : ℕ} {rest : List ℕ} (a : Af
   unfolding unless lastNumber
   read-after =
       let r = a .readable in
-      let d = delays-formed (a .lmin) (a .lmax) (r .delays) in
+      let d = r .delays in
       let x : List ℕ = linksBytes (a .lmin) (a .lmax) in
       let e : b ≡ x ++ (flowsBytes fs ++ rest) = a .bytes ∙ append-assoc x (flowsBytes fs) rest in
       let s : StartsLinks b (a .lmin) (a .lmax) =
       record { rest = flowsBytes fs ++ rest; least = omega (arith, d); most = omega (arith, d); bytes = e } in
       let p : linksRecord + length (flowsBytes fs) ≡ place = omega (arith, a .place-is, length-append x (flowsBytes fs)) in
-      plan-starts b (a .lmin) (a .lmax) s ∙ ap (λ (c : Cause). unless c 0 (readAfterLinks (a .lmin) (a .lmax) b)) (r .delays) ∙
+      plan-starts b (a .lmin) (a .lmax) s ∙ ap (λ (c : Cause). unless c 0 (readAfterLinks (a .lmin) (a .lmax) b)) (delays-passes (a .lmin) (a .lmax) d) ∙
       rw p at (read-flows fs [] b rest linksRecord (a .lmin) (a .lmax) (ap (drop linksRecord) e) (r .rising) (omega (arith, r .count)) (r .flows) (r .typed))
 
 -- What is in form is read, as the set that it lists

@@ -15,7 +15,7 @@ use Rattle.flows.specs.declared.Cause.the-variants.{Accepted, Delays, Full, Mal
 use Rattle.flows.specs.Refusals.{acceptedBy}
 use Rattle.flows.specs.Lists.{mostFlows}
 use Rattle.flows.specs.Tests.{delayCause, flowCause}
-use Rattle.flows.specs.WellFormed.{Exactly, OfDelays, delays-fit, delays-unfit, Each, each-none, each-more, Typed}
+use Rattle.flows.specs.WellFormed.{Exactly, WellFormed, OfDelays, delays-fit, delays-unfit, Each, each-none, each-more, Typed}
 use Rattle.row.specs.Rows.{lastNumber, Rising, rising-none, rising-more}
 use Rattle.records.specs.Kinds.{linksRecord, flowRecord, endKind}
 use Rattle.records.specs.Bodies.{Bytes}
@@ -38,7 +38,7 @@ use Rattle.plan.proofs.Trips.{last-snoc, first-byte, end-here, end-star
 
 -- ---- a flow's record: accepted, or refused as the words say
 record Taken (fs : List Flow) (f : Flow) : Type 0 where
-  flow : flowCause f ≡ Accepted
+  flow : WellFormed f
   rises : lastNumber fs < f .number
   room : length fs < mostFlows
 
@@ -61,7 +61,7 @@ module _ (fs : List Flow) (f : Flow) (t : Typed f) where
           let z = eqb-true (f .number) 0 i in
           absurd (omega arith)
       go false false true true i j k l = inr (no-room (leb-false _ _ j) (formed f t (accepted-only (flowCause f) k)) (leb-true _ _ l))
-      go false false true false i j k l = inl (record { flow = accepted-only (flowCause f) k; rises = leb-false _ _ j; room = leb-false _ _ l })
+      go false false true false i j k l = inl (record { flow = formed f t (accepted-only (flowCause f) k); rises = leb-false _ _ j; room = leb-false _ _ l })
 
   rises-in : (f .number ≡ 0) ⊎ (lastNumber fs < f .number) → fallsTo (f .number) (lastNumber fs) ≡ false
   rises-in (inl h) = sym (falls-zero (f .number) (lastNumber fs) h)
@@ -172,7 +172,7 @@ module _ (b : List ℕ) (u : Bytes b) where
           after-decided mostFlows {fs = []} {at = linksRecord} {rest = s .rest} refl (record {
             lmin = lmin;
             lmax = lmax;
-            readable = readable-none lmin lmax e;
+            readable = readable-none lmin lmax h;
             bytes = s .bytes;
             place-is = refl;
           })

@@ -33,7 +33,7 @@ pub record WasRead (s : FlowSet) : Type 0 where
   pub given : readPlan bytes .set ≡ s
 
 -- ---- reading: what is read
--- the plan of link delays and flows to which refusals 1 to 4 do not apply, at most sixteen and their numbers rising
+-- the plan of link delays that fit and of well-formed flows, at most sixteen and their numbers rising
 pub record InForm (b : List ℕ) : Type 0 where
   pub lmin : ℕ
   pub lmax : ℕ

@@ -6,17 +6,15 @@ use lib.ListN.{length}
 use Rattle.flows.specs.declared.Flow.{Flow}
 use Rattle.flows.specs.declared.Cause.{Cause}
 use Rattle.flows.specs.declared.Cause.the-variants.{Accepted, Present, Full}
-use Rattle.flows.specs.Lists.{mostFlows}
-use Rattle.flows.specs.Tests.{delayCause, flowCause}
-use Rattle.flows.specs.WellFormed.{WellFormed, OfFlow, Each, Typed}
+use Rattle.flows.specs.WellFormed.{DelaysFit, WellFormed, OfFlow, Each, Typed}
 use Rattle.row.specs.Rows.{Rising}
 
--- refusals 1 to 4 do not apply, numbers rise, and there are at most sixteen flows; whether the set is accepted by 7 to 10 does not matter
+-- well formed one by one, numbers rising, and at most sixteen flows; whether the set is accepted by 7 to 10 does not matter
 pub record Readable (lmin lmax : ℕ) (fs : List Flow) : Type 0 where
-  pub delays : delayCause lmin lmax ≡ Accepted
+  pub delays : DelaysFit lmin lmax
   pub rising : Rising 0 fs
-  pub count : length fs ≤ mostFlows
-  pub flows : Each (λ f. flowCause f ≡ Accepted) fs
+  pub count : length fs ≤ 16
+  pub flows : Each WellFormed fs
   pub typed : Each Typed fs
 
 -- no flow of that number

@@ -16,9 +16,9 @@ use Rattle.flows.specs.declared.Cause.the-variants.{Accepted, Crossing, NoBusyL
 use Rattle.flows.specs.Refusals.{acceptedBy}
 use Rattle.flows.specs.Lists.{mostFlows, held, rowOf, flowOf, netFrom, tableNet}
 use Rattle.flows.specs.Tests.{delayCause}
-use Rattle.flows.specs.WellFormed.{Typed}
+use Rattle.flows.specs.WellFormed.{DelaysFit, Typed}
 use Rattle.flows.proofs.Causes.{accepted-only}
-use Rattle.flows.proofs.Passed.{formed-passes}
+use Rattle.flows.proofs.Passed.{delays-formed}
 use Rattle.row.specs.declared.Found.{Found}
 use Rattle.row.specs.declared.Found.the-variants.{At, Nothing}
 use Rattle.row.specs.Sets.{Readable, Enters}
@@ -51,9 +51,9 @@ right-of t fs gs e k j g =
     }
 
 -- ---- the empty table
-pub empty-right : (lmin lmax : ℕ) → delayCause lmin lmax ≡ Accepted → Right (emptyTable lmin lmax)
+pub empty-right : (lmin lmax : ℕ) → DelaysFit lmin lmax → Right (emptyTable lmin lmax)
 unfolding emptyTable given
-empty-right lmin lmax e = right-of (emptyTable lmin lmax) [] [] refl (readable-none lmin lmax e) (none-accepted lmin lmax) refl
+empty-right lmin lmax h = right-of (emptyTable lmin lmax) [] [] refl (readable-none lmin lmax h) (none-accepted lmin lmax) refl
 
 pub fresh-right : (lmin lmax : ℕ) → Right (freshAnswer lmin lmax .table)
 unfolding freshAnswer unless answered delayCause
@@ -61,8 +61,8 @@ fresh-right lmin lmax = go (acceptedBy (delayCause lmin lmax)) refl
   where
     go : (b : Bool) → acceptedBy (delayCause lmin lmax) ≡ b →
         Right (cond b (answered Accepted (emptyTable lmin lmax)) (answered (delayCause lmin lmax) (emptyTable 0 0)) .table)
-    go true e = empty-right lmin lmax (accepted-only (delayCause lmin lmax) e)
-    go false e = empty-right 0 0 refl
+    go true e = empty-right lmin lmax (delays-formed lmin lmax (accepted-only (delayCause lmin lmax) e))
+    go false e = empty-right 0 0 (omega arith, omega arith)
 
 -- ---- admission
 pub cause-refuses : (k n : ℕ) → acceptedBy (causeOf k n) ≡ false
@@ -99,7 +99,7 @@ module _ (t : Table) (f : Flow) (n : Enters (held (t .row)) f) where
         delays = k .delays;
         rising = insert-rising f (held (t .row)) (n .flow .number .0) (n .lacks) (k .rising);
         count = omega (arith, length-inserted f (held (t .row)), n .room);
-        flows = insert-each _ f (held (t .row)) (formed-passes f u (n .flow)) (k .flows);
+        flows = insert-each _ f (held (t .row)) (n .flow) (k .flows);
         typed = insert-each _ f (held (t .row)) u (k .typed);
       }
 

@@ -19,7 +19,7 @@ use Rattle.flows.specs.declared.Answer.{Answer}
 use Rattle.flows.specs.declared.Cause.the-variants.{Accepted}
 use Rattle.flows.specs.Lists.{held, rowOf, flowOf, netFrom, tableNet}
 use Rattle.flows.specs.WellFormed.{Each, each-none, each-more, Typed}
-use Rattle.flows.proofs.Passed.{each-member, formed}
+use Rattle.flows.proofs.Passed.{delays-passes, each-member}
 use Rattle.flows.proofs.Same.{same-flow}
 use Rattle.row.specs.Rows.{insertSorted, without}
 use Rattle.row.proofs.Arrays.{held-rowOf}
@@ -55,8 +55,8 @@ within t u r s h f p =
     let q = from-map (held (u .row)) (h (flowOf f) (Memᴰ·map flowOf p)) in
     let a = each-member _ (held (t .row)) (r .set .typed) p in
     let b = each-member _ (held (u .row)) (s .set .typed) (q .1) in
-    let v = formed f a (each-member _ (held (t .row)) (r .set .flows) p) in
-    let w = formed (q .0) b (each-member _ (held (u .row)) (s .set .flows) (q .1)) in
+    let v = each-member _ (held (t .row)) (r .set .flows) p in
+    let w = each-member _ (held (u .row)) (s .set .flows) (q .1) in
     subst (λ (g : Flow). Present u g) (same-flow (q .0) f b a w v (q .2)) (q .1)
 
 -- The same flows and link delays are the same table, in whatever order the flows were admitted. RULES, tables
@@ -126,7 +126,7 @@ module _ (t : Table) (r : Right t) (f : Flow) (m : Present t f) where
 
   left : Enters fewer f
   left = record {
-    flow = formed f typed (each-member _ (held (t .row)) (r .set .flows) m);
+    flow = each-member _ (held (t .row)) (r .set .flows) m;
     lacks = each-from fewer (λ g n. without-only (f .number) g (held (t .row)) (r .set .rising) n .0);
     room = omega (arith, shorter f (held (t .row)) m, r .set .count);
   }
@@ -152,7 +152,7 @@ withdraw-admit t m f p = right-again t (made-right t m) f p
 right-fresh : (t : Table) → Right t → held (t .row) ≡ [] → t ≡ freshAnswer (t .lmin) (t .lmax) .table
 unfolding freshAnswer unless answered emptyTable
 right-fresh t r h =
-    rw (r .set .delays) (right-same t (emptyTable (t .lmin) (t .lmax)) r (empty-right (t .lmin) (t .lmax) (r .set .delays)) refl refl (h ∙ sym (held-rowOf [])))
+    rw (delays-passes (t .lmin) (t .lmax) (r .set .delays)) (right-same t (emptyTable (t .lmin) (t .lmax)) r (empty-right (t .lmin) (t .lmax) (r .set .delays)) refl refl (h ∙ sym (held-rowOf [])))
 
 made-in : (n : ℕ) (t : Table) → Right t → length (held (t .row)) ≡ n → Made t
 unfolding answered without
