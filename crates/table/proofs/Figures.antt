@@ -16,12 +16,12 @@ use Rattle.flows.specs.declared.Asked.the-variants.{Given}
 use Rattle.flows.specs.Lists.{noFlow, held, flowOf, tableNet}
 use Rattle.row.specs.declared.Found.the-variants.{At}
 use Rattle.row.specs.Rows.{firstOf, placeOf, foundIn}
+use Rattle.row.proofs.Valid.{readable-valid}
 use Rattle.engine.specs.Verdicts.{noFigures, asFigures, given}
 use Rattle.table.specs.Calls.{askedBy, askedFor}
 use Rattle.table.specs.Made.{Made}
 use Rattle.table.specs.Demands.{Present, Figured}
 use Rattle.table.proofs.Nets.{Accepting, accepting}
-use Rattle.row.proofs.Valid.{readable-valid}
 use Rattle.table.proofs.Kept.{Right, made-right}
 
 -- a flow that is present is found at its place

@@ -24,12 +24,12 @@ use Rattle.flows.proofs.Passed.{exact-from}
 use Rattle.row.specs.Rows.{insertSorted, entryCause}
 use Rattle.row.specs.Sets.{Enters}
 use Rattle.row.proofs.Sets.{entry-exact, enters, entered}
+use Rattle.row.proofs.Valid.{readable-valid}
 use Rattle.engine.specs.Verdicts.{refused, given, verdictFrom}
 use Rattle.table.specs.Calls.{answered, unless, admitted}
 use Rattle.table.specs.Made.{Made}
 use Rattle.table.specs.Demands.{enlargedNet, CrossingPermitted, Unfit, no-busy-length, not-settled, past-deadline, OfAdmission, by-entry, by-set}
 use Rattle.table.proofs.Nets.{accepting}
-use Rattle.row.proofs.Valid.{readable-valid}
 use Rattle.table.proofs.Kept.{admit-kept, admit-decided, made-right}
 use Rattle.table.proofs.Calls.{decided-cause, admit-done}
 

@@ -26,11 +26,11 @@ use Rattle.row.specs.declared.Found.the-variants.{At, Nothing}
 use Rattle.row.specs.Rows.{foundIn, without, inserted, entryCause}
 use Rattle.row.proofs.Arrays.{getD-any, held-rowOf}
 use Rattle.row.proofs.Sets.{found-flow, enters}
+use Rattle.row.proofs.Valid.{readable-valid}
 use Rattle.engine.specs.declared.Verdict.{Verdict}
 use Rattle.engine.specs.Verdicts.{noFigures, verdictOf}
 use Rattle.table.specs.Calls.{emptyTable, answered, unless, freshAnswer, holding, decided, judgedRow, admitted, withdrawnBy, withdrawn, askedBy, askedFor}
 use Rattle.table.specs.Made.{Made}
-use Rattle.row.proofs.Valid.{readable-valid}
 use Rattle.table.proofs.Kept.{admit-row, admit-kept, withdraw-kept, made-right}
 
 pub empty-made : (lmin lmax : ℕ) (row : Row) (none : Figures) → row ≡ rowOf [] → none ≡ noFigures →
