@@ -5,8 +5,6 @@ use flows::Asked;
 use flows::Table;
 use libc::STDIN_FILENO;
 use plan::FlowSet;
-use plan::Outcome;
-use plan::Reading;
 use plan::Written;
 ghost use Prim.Native.Nat.{_<_, _≤_};
 ghost use lib.ListN.{length};
@@ -21,6 +19,11 @@ struct Kept {
     more: bool,
     table: Table,
     set: FlowSet,
+}
+
+// Reads as many bytes as this memory has; false if the input ends before.
+fn fill(memory: &mut [u8]) -> bool {
+    io::read_full(STDIN_FILENO, memory) == memory.len()
 }
 
 // Of an unknown call, one that the input's end cuts short, or a buffer of more than LENT bytes.
@@ -44,7 +47,7 @@ fn tell(mut kept: Kept, answer: Answer, done: &[u8]) -> Kept {
 
 fn make_table(kept: Kept) -> Kept {
     let mut body = [0u8; 4];
-    if io::read_full(STDIN_FILENO, &mut body) < 4 {
+    if !fill(&mut body) {
         return stop(kept);
     }
     let links = records::read_links(&body);
@@ -53,7 +56,7 @@ fn make_table(kept: Kept) -> Kept {
 
 fn admit_flow(kept: Kept) -> Kept {
     let mut body = [0u8; 33];
-    if io::read_full(STDIN_FILENO, &mut body) < 33 {
+    if !fill(&mut body) {
         return stop(kept);
     }
     let f = records::read_flow(&body);
@@ -63,7 +66,7 @@ fn admit_flow(kept: Kept) -> Kept {
 
 fn withdraw_flow(kept: Kept) -> Kept {
     let mut body = [0u8; 1];
-    if io::read_full(STDIN_FILENO, &mut body) < 1 {
+    if !fill(&mut body) {
         return stop(kept);
     }
     let t = kept.table;
@@ -72,7 +75,7 @@ fn withdraw_flow(kept: Kept) -> Kept {
 
 fn ask_flow(kept: Kept) -> Kept {
     let mut body = [0u8; 1];
-    if io::read_full(STDIN_FILENO, &mut body) < 1 {
+    if !fill(&mut body) {
         return stop(kept);
     }
     let number = body[0];
@@ -91,35 +94,11 @@ fn print_table(kept: Kept) -> Kept {
     kept
 }
 
-// A figure from 0 to f.
-fn digit(n: u8) -> u8
-    requires { ⌜ n < 16 ⌝ }
-{
-    if n < 10 {
-        return b'0' + n;
-    }
-    b'a' + (n - 10)
-}
-
-fn print_byte(byte: u8) {
-    let pair = [digit(byte / 16), digit(byte % 16)];
-    show::put(&pair);
-}
-
-fn print_bytes(bytes: &[u8], n: usize) {
-    let mut k: usize = 0;
-    while k < n && k < bytes.len() {
-        print_byte(bytes[k]);
-        k += 1;
-    }
-    show::put(b"\n");
-}
-
 // Prints the first n bytes, and goes on with the table of the plan in them.
 fn read_table(kept: Kept, bytes: &[u8], n: usize) -> Kept
     requires { ⌜ n ≤ length (now bytes) ⌝ }
 {
-    print_bytes(bytes, n);
+    show::print_bytes(bytes, n);
     tell(kept, plans::read_plan(&bytes[..n]), b"")
 }
 
@@ -144,7 +123,7 @@ fn write_into(bytes: &mut [u8], t: Table) {
         Written::Length(n) => show::print_length(n),
         Written::Refused(r) => show::print_refusal(r),
     }
-    print_bytes(bytes, bytes.len());
+    show::print_bytes(bytes, bytes.len());
 }
 
 fn join(high: u8, low: u8) -> usize
@@ -155,7 +134,7 @@ fn join(high: u8, low: u8) -> usize
 
 fn lend_buffer(kept: Kept) -> Kept {
     let mut body = [0u8; 2];
-    if io::read_full(STDIN_FILENO, &mut body) < 2 {
+    if !fill(&mut body) {
         return stop(kept);
     }
     let n = join(body[0], body[1]);
@@ -168,25 +147,13 @@ fn lend_buffer(kept: Kept) -> Kept {
     kept
 }
 
-fn print_reading(reading: Reading) {
-    let outcome = reading.outcome;
-    let Outcome::Read = outcome else {
-        show::print_refusal(flows::refuse(plan::cause_in(outcome), plan::place_in(outcome)));
-        return;
-    };
-    let set = reading.set;
-    let row = set.row;
-    show::put(b"read ");
-    show::print_length(row::size(row));
-}
-
 // Reads as many bytes as this memory has, and the set that they list.
 fn read_set(mut kept: Kept, bytes: &mut [u8]) -> Kept {
-    if io::read_full(STDIN_FILENO, bytes) < bytes.len() {
+    if !fill(bytes) {
         return stop(kept);
     }
     let reading = plan::read(bytes);
-    print_reading(reading);
+    show::print_reading(reading);
     let set = reading.set;
     kept.set = set;
     kept
@@ -194,7 +161,7 @@ fn read_set(mut kept: Kept, bytes: &mut [u8]) -> Kept {
 
 fn load_set(kept: Kept) -> Kept {
     let mut body = [0u8; 2];
-    if io::read_full(STDIN_FILENO, &mut body) < 2 {
+    if !fill(&mut body) {
         return stop(kept);
     }
     let n = join(body[0], body[1]);
@@ -207,7 +174,7 @@ fn write_set(kept: Kept) -> Kept {
     let set = kept.set;
     let written = plan::write(&mut buffer, set);
     match written {
-        Written::Length(n) => print_bytes(&buffer, n),
+        Written::Length(n) => show::print_bytes(&buffer, n),
         Written::Refused(r) => show::print_refusal(r),
     }
     kept
@@ -236,7 +203,7 @@ fn call(kind: u8, kept: Kept) -> Kept {
 
 fn next_call(mut kept: Kept) -> Kept {
     let mut kind = [0u8; 1];
-    if io::read_full(STDIN_FILENO, &mut kind) < 1 {
+    if !fill(&mut kind) {
         kept.more = false;
         return kept;
     }

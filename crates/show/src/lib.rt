@@ -1,8 +1,11 @@
-// What the programs print of a plan, a table and a refusal.
+// What the programs print of plans, tables, bytes and refusals.
 use flows::Figures;
 use flows::Refusal;
 use flows::Table;
 use libc::STDOUT_FILENO;
+use plan::Outcome;
+use plan::Reading;
+ghost use Prim.Native.Nat.{_<_};
 
 pub fn put(text: &[u8]) {
     io::write_all(STDOUT_FILENO, text);
@@ -51,6 +54,44 @@ pub fn print_refusal(r: Refusal) {
 pub fn print_length(n: usize) {
     put_number(n as u64);
     put(b"\n");
+}
+
+// A figure from 0 to f.
+fn digit(n: u8) -> u8
+    requires { ⌜ n < 16 ⌝ }
+{
+    if n < 10 {
+        return b'0' + n;
+    }
+    b'a' + (n - 10)
+}
+
+fn print_byte(byte: u8) {
+    let pair = [digit(byte / 16), digit(byte % 16)];
+    put(&pair);
+}
+
+// The first n bytes, or all that there are, in hexadecimal on a line.
+pub fn print_bytes(bytes: &[u8], n: usize) {
+    let mut k: usize = 0;
+    while k < n && k < bytes.len() {
+        print_byte(bytes[k]);
+        k += 1;
+    }
+    put(b"\n");
+}
+
+// How many flows were read, or the refusal.
+pub fn print_reading(reading: Reading) {
+    let outcome = reading.outcome;
+    let Outcome::Read = outcome else {
+        print_refusal(flows::refuse(plan::cause_in(outcome), plan::place_in(outcome)));
+        return;
+    };
+    let set = reading.set;
+    let row = set.row;
+    put(b"read ");
+    print_length(row::size(row));
 }
 
 // The table of an accepted plan, or the refusal.

@@ -6,16 +6,16 @@ use Rattle.calls.proofs.lend_buffer.Statement.{statement}
 use Rattle.calls.proofs.lend_buffer.Tie as tie
 use Rattle.calls.proofs.lend_buffer.Reads as reads
 use Rattle.calls.proofs.lend_buffer.Lts as lts
+use Rattle.calls.proofs.fill.Reads as fill-reads
 use Rattle.calls.proofs.join.Reads as join-reads
 use Rattle.calls.proofs.stop.Reads as stop-reads
 use Rattle.calls.proofs.write_into.Reads as write-into-reads
-use Rattle.io.proofs.read_full.Reads as read-full-reads
 
-slice-aggregate-read-full : tie.Need-slice-aggregate-read-full
-slice-aggregate-read-full c = search needs
+slice-aggregate-fill : tie.Need-slice-aggregate-fill
+slice-aggregate-fill c = search needs
 
-read-full-requires : tie.Need-read-full-requires
-read-full-requires c κs = search needs
+fill-requires : tie.Need-fill-requires
+fill-requires c κs = search needs
 
 stop-requires : tie.Need-stop-requires
 stop-requires c κs = search needs
@@ -54,8 +54,8 @@ pub lend-buffer-spec : {M : Type 1} → statement M
 lend-buffer-spec =
     tie.close
     (tie.spec
-    slice-aggregate-read-full
-    read-full-requires
+    slice-aggregate-fill
+    fill-requires
     stop-requires
     returns
     array-read-join

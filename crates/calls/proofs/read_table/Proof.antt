@@ -6,9 +6,9 @@ use Rattle.calls.proofs.read_table.Statement.{statement}
 use Rattle.calls.proofs.read_table.Tie as tie
 use Rattle.calls.proofs.read_table.Reads as reads
 use Rattle.calls.proofs.read_table.Lts as lts
-use Rattle.calls.proofs.print_bytes.Reads as print-bytes-reads
 use Rattle.calls.proofs.tell.Reads as tell-reads
 use Rattle.plans.proofs.read_plan.Reads as read-plan-reads
+use Rattle.show.proofs.print_bytes.Reads as print-bytes-reads
 
 print-bytes-requires : tie.Need-print-bytes-requires
 print-bytes-requires c κs = search needs

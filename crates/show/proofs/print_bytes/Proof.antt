@@ -1,12 +1,12 @@
--- `calls::print_bytes` meets its contract.
+-- `show::print_bytes` meets its contract.
 use Prim.Native.Nat.{_-_, _≤_}
 use borrow.Author.Needs.{needs}
-use Rattle.calls.proofs.print_bytes.Statement.{statement}
-use Rattle.calls.proofs.print_bytes.Tie as tie
-use Rattle.calls.proofs.print_bytes.Reads as reads
-use Rattle.calls.proofs.print_bytes.Lts as lts
-use Rattle.calls.proofs.print_byte.Reads as print-byte-reads
+use Rattle.show.proofs.print_bytes.Statement.{statement}
+use Rattle.show.proofs.print_bytes.Tie as tie
+use Rattle.show.proofs.print_bytes.Reads as reads
+use Rattle.show.proofs.print_bytes.Lts as lts
+use Rattle.show.proofs.print_byte.Reads as print-byte-reads
 use Rattle.show.proofs.put.Reads as put-reads
 
 abbrev Inv-loop : tie.InvT-loop
 Inv-loop bytes n k₀ t4 k = k ≤ n
