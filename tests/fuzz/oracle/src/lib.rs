@@ -1,9 +1,10 @@
 //! The second program's answer to a plan, for C.
 
 use second::flow::Flow;
-use second::plan::{judge, read};
+use second::plan::read;
 use second::refusal::Refusal;
-use second::verdict::{busy_lengths, settle, Figures};
+use second::table::Table;
+use second::verdict::{busy_lengths, settle};
 use std::slice;
 
 /// What the host's two functions should give: the code, and the bound of each flow number.
@@ -28,7 +29,7 @@ pub unsafe extern "C" fn second_answer(
     if takes_more(plan, most) {
         return false;
     }
-    out.write(answer(judge(plan)));
+    out.write(answer(Table::of_plan(plan)));
     true
 }
 
@@ -44,14 +45,14 @@ fn takes_more(plan: &[u8], most: u64) -> bool {
     round > most || round * settle(&set, &busy).rounds as u64 > most
 }
 
-fn answer(judged: Result<Vec<Figures>, Refusal>) -> Answer {
+fn answer(judged: Result<Table, Refusal>) -> Answer {
     let mut out = Answer {
         code: 0,
         bounds: [0; 256],
     };
     match judged {
-        Ok(figures) => {
-            for f in figures {
+        Ok(table) => {
+            for f in table.figures() {
                 out.bounds[f.number as usize] = f.bound as u64;
             }
         }
