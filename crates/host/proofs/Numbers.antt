@@ -20,9 +20,9 @@ use Rattle.row.specs.declared.Found.{Found}
 use Rattle.row.specs.declared.Found.the-variants.{Nothing}
 use Rattle.row.specs.Rows.{firstOf, placeOf, foundIn}
 use Rattle.records.specs.Bodies.{Bytes}
+use Rattle.records.proofs.RoundTrip.{bytes-fit}
 use Rattle.plan.specs.Reading.{readPlan}
 use Rattle.plan.proofs.Unread.{place-inside}
-use Rattle.plan.proofs.Sets.{bytes-fit}
 use Rattle.table.specs.Calls.{askedBy, askedFor}
 use Rattle.table.specs.Made.{Made}
 use Rattle.table.proofs.Kept.{made-right}

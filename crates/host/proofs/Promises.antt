@@ -16,11 +16,11 @@ use Rattle.flows.specs.Lists.{flowOf, tableNet}
 use Rattle.flows.proofs.Causes.{accepted-only, not-accepted}
 use Rattle.rules.specs.Meaning.{IsBound}
 use Rattle.records.specs.Bodies.{Bytes}
+use Rattle.records.proofs.RoundTrip.{bytes-fit}
 use Rattle.table.specs.Calls.{askedFor}
 use Rattle.table.specs.Demands.{Present, Unused, Figured}
 use Rattle.table.proofs.Figures.{made-figured}
 use Rattle.plans.specs.Plans.{planAnswer}
-use Rattle.plan.proofs.Sets.{bytes-fit}
 use Rattle.plans.proofs.Trips.{answer-made}
 use Rattle.host.specs.Host.{boundOf, codeOf, planCode, planBound}
 use Rattle.host.specs.Demands.{Judges, Bounds}

@@ -10,6 +10,7 @@ use mir.Syntax.{w8}
 use borrow.Author.Tests.{lt-ltb, le-ltb}
 use Rattle.flows.specs.Lists.{held}
 use Rattle.records.specs.Bodies.{Bytes}
+use Rattle.records.proofs.RoundTrip.{bytes-fit}
 use Rattle.plan.specs.declared.FlowSet.{FlowSet}
 use Rattle.plan.specs.declared.Outcome.{Outcome}
 use Rattle.plan.specs.declared.Reading.{Reading}
@@ -20,7 +21,7 @@ use Rattle.plan.specs.Writing.{setBytes, planLength, writtenInto, buffer
 use Rattle.plan.specs.Demands.{size, WasRead, WritesBack, SetRead, SetWritten}
 use Rattle.plan.proofs.Trips.{form-read, plan-long, plan-length}
 use Rattle.plan.proofs.Unread.{place-inside, plan-form, unread-exact}
-use Rattle.plan.proofs.Sets.{bytes-fit, Proper, read-proper, read-write, write-read-set}
+use Rattle.plan.proofs.Sets.{Proper, read-proper, read-write, write-read-set}
 
 -- ---- writing: what the buffer then holds
 module _ (s : FlowSet) (old : List ℕ) where

@@ -3,9 +3,6 @@ use Prim.Native.Nat.{ℕ}
 use mathlib.Core.Path.{_≡_, refl, sym, ap, _∙_, subst}
 use mathlib.Core.List.{List, []}
 use native.Mathlib.Omega.{arith}
-use lib.ListN.{getD}
-use mir.Val.{Fits}
-use mir.Syntax.{w8}
 use Rattle.flows.specs.declared.Flow.{Flow}
 use Rattle.flows.specs.declared.Row.{Row}
 use Rattle.flows.specs.Lists.{held, rowOf}
@@ -23,9 +20,6 @@ use Rattle.plan.specs.Writing.{planBytes, setBytes}
 use Rattle.plan.specs.Demands.{WasRead}
 use Rattle.plan.proofs.Trips.{form-read, write-read}
 use Rattle.plan.proofs.Unread.{place-inside, plan-form}
-
-pub bytes-fit : (b : List ℕ) → ((k : ℕ) → Fits w8 (getD b k 0)) → Bytes b
-bytes-fit b f k = f k .fits
 
 -- ---- the sets of the library's calls: every set that was read, and every table's
 pub record Proper (s : FlowSet) : Type 0 where

@@ -16,6 +16,7 @@ use Rattle.flows.specs.declared.Cause.the-variants.{Accepted}
 use Rattle.flows.specs.Refusals.{acceptedBy}
 use Rattle.flows.specs.Lists.{mostFlows, held, rowOf, netOf}
 use Rattle.row.proofs.Valid.{readable-valid}
+use Rattle.records.proofs.RoundTrip.{bytes-fit}
 use Rattle.plan.specs.declared.FlowSet.{FlowSet}
 use Rattle.plan.specs.declared.Outcome.{Outcome}
 use Rattle.plan.specs.declared.Outcome.the-variants.{Read, Refused}
@@ -23,7 +24,7 @@ use Rattle.plan.specs.declared.Reading.{Reading}
 use Rattle.plan.specs.Reading.{causeIn, placeIn, readPlan}
 use Rattle.plan.specs.Demands.{WasRead}
 use Rattle.plan.proofs.Outcome.{the-type}
-use Rattle.plan.proofs.Sets.{bytes-fit, read-proper}
+use Rattle.plan.proofs.Sets.{read-proper}
 use Rattle.engine.specs.declared.Verdict.{Verdict}
 use Rattle.engine.specs.Verdicts.{noFigures, verdictOf}
 use Rattle.table.specs.Calls.{emptyTable}

@@ -17,11 +17,12 @@ use Rattle.flows.specs.WellFormed.{Exact}
 use Rattle.flows.proofs.Causes.{not-accepted}
 use Rattle.flows.proofs.Passed.{exact-from}
 use Rattle.records.specs.Bodies.{Bytes}
+use Rattle.records.proofs.RoundTrip.{bytes-fit}
 use Rattle.plan.specs.declared.FlowSet.{FlowSet}
 use Rattle.plan.specs.declared.Written.{Written}
 use Rattle.plan.specs.Writing.{setBytes, writtenInto, bufferAfter}
 use Rattle.plan.specs.Demands.{WasRead}
-use Rattle.plan.proofs.Sets.{bytes-fit, read-proper}
+use Rattle.plan.proofs.Sets.{read-proper}
 use Rattle.plan.proofs.Promises.{begins, written, writes-back}
 use Rattle.engine.specs.Verdicts.{verdictFrom, verdictOf}
 use Rattle.table.specs.Calls.{emptyTable}

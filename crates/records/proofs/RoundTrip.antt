@@ -5,10 +5,16 @@ use mathlib.Core.List.{List, _∷_}
 use native.Mathlib.Omega.{arith}
 use lib.ListN.{length, getD, take, drop}
 use lib.Seq.{take-all, drop-cons}
+use mir.Val.{Fits}
+use mir.Syntax.{w8}
 use Rattle.flows.specs.declared.Flow.{Flow}
 use Rattle.flows.specs.WellFormed.{Typed}
 use Rattle.records.specs.Kinds.{linksBody, flowBody, flowNodes}
 use Rattle.records.specs.Bodies.{Bytes, bytesFrom, wordsFrom, linksRead, flowRead, wordsWritten, linksWritten, flowWritten}
+
+-- what a slice of bytes holds
+pub bytes-fit : (b : List ℕ) → ((k : ℕ) → Fits w8 (getD b k 0)) → Bytes b
+bytes-fit b f k = f k .fits
 
 high-low : (x : ℕ) → x < 65536 → x / 256 % 256 * 256 + x % 256 ≡ x
 high-low x h = omega arith
