@@ -3,9 +3,9 @@
 use flows::Answer;
 use flows::Asked;
 use flows::Table;
+use flows::Written;
 use libc::STDIN_FILENO;
 use plan::FlowSet;
-use plan::Written;
 ghost use Prim.Native.Nat.{_<_, _≤_};
 ghost use lib.ListN.{length};
 

@@ -3,6 +3,8 @@ use Prim.Native.Nat.{ℕ}
 use mathlib.Core.Bool.{Bool, cond}
 use lib.Dec.{eqb}
 use Rattle.flows.specs.declared.Refusal.{Refusal}
+use Rattle.flows.specs.declared.Outcome.{Outcome}
+use Rattle.flows.specs.declared.Outcome.the-variants.{Read, Refused}
 use Rattle.flows.specs.declared.Cause.{Cause}
 use Rattle.flows.specs.declared.Cause.the-variants.{Accepted, Delays, NumberZero, OutOfRange, NodeTwice, Present, Full, Crossing, NoBusyLength, Unsettled, PastDeadline, Absent, Malformed, ShortBuffer}
 
@@ -48,3 +50,12 @@ flowNamed ShortBuffer = 0
 
 abbrev pub refusalOf : Cause → ℕ → Refusal
 refusalOf cause place = record { number = numberOf cause; flow = flowNamed cause; place = place }
+
+-- the cause and the place that an outcome stands for
+abbrev pub causeIn : Outcome → Cause
+causeIn Read = Accepted
+causeIn (Refused cause place) = cause
+
+abbrev pub placeIn : Outcome → ℕ
+placeIn Read = 0
+placeIn (Refused cause place) = place

@@ -2,7 +2,7 @@
 ghost use mathlib.Core.Path.{_≡_};
 ghost use Prim.Native.Nat.{_<_, _≤_};
 ghost use lib.ListN.{length};
-ghost use Rattle.flows.specs.Refusals.{numberOf, acceptedBy, flowNamed, refusalOf};
+ghost use Rattle.flows.specs.Refusals.{numberOf, acceptedBy, flowNamed, refusalOf, causeIn, placeIn};
 ghost use Rattle.flows.specs.Lists.{mostNodes, noFlow, pathOf, unusedOf};
 ghost use Rattle.flows.specs.Tests.{delayCause, every, hopFits, hopZero, rangesFit, distinct, nodesOf, notAgain, flowCause};
 ghost use Rattle.flows.specs.WellFormed.{OfDelays, OfFlow, Exact, Typed};
@@ -86,6 +86,18 @@ pub enum Asked {
     Refused(Refusal),
 }
 
+// Of reading records: all were read, or the first that is refused, with its place.
+pub enum Outcome {
+    Read,
+    Refused(Cause, usize),
+}
+
+// Of writing: the length of what was written, or the refusal of the buffer.
+pub enum Written {
+    Length(usize),
+    Refused(Refusal),
+}
+
 pub fn no_flow() -> Flow
     ensures { λ r. ⌜ r ≡ noFlow ⌝ }
 {
@@ -156,6 +168,25 @@ pub fn refuse(cause: Cause, place: usize) -> Refusal
         number: refusal_number(cause),
         flow: flow_named(cause),
         place,
+    }
+}
+
+// The cause that an outcome stands for.
+pub fn cause_in(outcome: Outcome) -> Cause
+    ensures { λ r. ⌜ r ≡ causeIn outcome ⌝ }
+{
+    match outcome {
+        Outcome::Read => Cause::Accepted,
+        Outcome::Refused(cause, _) => cause,
+    }
+}
+
+pub fn place_in(outcome: Outcome) -> usize
+    ensures { λ r. ⌜ r ≡ placeIn outcome ⌝ }
+{
+    match outcome {
+        Outcome::Read => 0,
+        Outcome::Refused(_, place) => place,
     }
 }
 

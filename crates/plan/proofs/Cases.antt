@@ -12,7 +12,8 @@ use Rattle.flows.specs.Tests.{delayCause, every, hopFits, hopZero, rangesFit, d
 use Rattle.row.specs.Rows.{lastNumber}
 use Rattle.records.specs.Bodies.{wordsWritten, flowWritten}
 use Rattle.reader.specs.Places.{kindOf, kindAt}
-use Rattle.plan.specs.Reading.{causeIn, placeIn, refused, unless, fallsTo, recordCause, atEnd, ifFlow, readFlows, ifLinks, readPlan}
+use Rattle.flows.specs.Refusals.{causeIn, placeIn}
+use Rattle.plan.specs.Reading.{refused, unless, fallsTo, recordCause, atEnd, ifFlow, readFlows, ifLinks, readPlan}
 use Rattle.plan.specs.Writing.{linksBytes, flowBytes, flowsBytes, planBytes}
 
 -- one node of that number and that cost; T 20, D 60

@@ -12,10 +12,10 @@ use Rattle.flows.specs.Lists.{held}
 use Rattle.records.specs.Bodies.{Bytes}
 use Rattle.records.proofs.RoundTrip.{bytes-fit}
 use Rattle.plan.specs.declared.FlowSet.{FlowSet}
-use Rattle.plan.specs.declared.Outcome.{Outcome}
+use Rattle.flows.specs.declared.Outcome.{Outcome}
 use Rattle.plan.specs.declared.Reading.{Reading}
-use Rattle.plan.specs.declared.Written.{Written}
-use Rattle.plan.specs.declared.Written.the-variants.{Length, Refused}
+use Rattle.flows.specs.declared.Written.{Written}
+use Rattle.flows.specs.declared.Written.the-variants.{Length, Refused}
 use Rattle.plan.specs.Reading.{readPlan}
 use Rattle.plan.specs.Writing.{setBytes, planLength, writtenInto, bufferAfter}
 use Rattle.plan.specs.Demands.{size, WasRead, WritesBack, SetRead, SetWritten}

@@ -15,7 +15,7 @@ use Rattle.flows.specs.Refusals.{refusalOf}
 use Rattle.flows.specs.Lists.{held}
 use Rattle.records.specs.Kinds.{linksKind, linksRecord, flowKind, flowBody, flowRecord, endKind}
 use Rattle.records.specs.Bodies.{linksWritten, flowWritten}
-use Rattle.plan.specs.declared.Written.the-variants.{Length, Refused}
+use Rattle.flows.specs.declared.Written.the-variants.{Length, Refused}
 use Rattle.plan.specs.Writing.{linksBytes, flowBytes, flowsBytes, planBytes, planLength, writtenInto, bufferAfter}
 use Rattle.row.proofs.Arrays.{held-all}
 

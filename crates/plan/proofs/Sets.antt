@@ -12,8 +12,8 @@ use Rattle.row.proofs.Valid.{readable-none}
 use Rattle.records.specs.Bodies.{Bytes}
 use Rattle.reader.proofs.Places.{impossible}
 use Rattle.plan.specs.declared.FlowSet.{FlowSet}
-use Rattle.plan.specs.declared.Outcome.{Outcome}
-use Rattle.plan.specs.declared.Outcome.the-variants.{Read, Refused}
+use Rattle.flows.specs.declared.Outcome.{Outcome}
+use Rattle.flows.specs.declared.Outcome.the-variants.{Read, Refused}
 use Rattle.plan.specs.declared.Reading.{Reading}
 use Rattle.plan.specs.Reading.{readPlan}
 use Rattle.plan.specs.Writing.{planBytes, setBytes}

@@ -21,7 +21,7 @@ use Rattle.records.specs.Bodies.{flowRead}
 use Rattle.reader.specs.declared.Kind.{Kind}
 use Rattle.reader.specs.declared.Kind.the-variants.{OfLinks, OfFlow, OfEnd, OfNone}
 use Rattle.plan.specs.declared.Reading.{Reading}
-use Rattle.plan.specs.declared.Outcome.the-variants.{Refused}
+use Rattle.flows.specs.declared.Outcome.the-variants.{Refused}
 use Rattle.reader.specs.Places.{kindAt}
 use Rattle.plan.specs.Reading.{flowAt, linksAt, refused, listed, unless, fallsTo, recordCause, atEnd, readEnd, ifFlow, readFlows, readAfterLinks, ifLinks, readPlan}
 use Rattle.row.proofs.Arrays.{held-rowOf, append-list, length-snoc}

@@ -22,8 +22,9 @@ use Rattle.records.specs.Bodies.{Bytes}
 use Rattle.reader.specs.declared.Kind.the-variants.{OfLinks, OfFlow, OfEnd}
 use Rattle.reader.specs.Places.{kindAt}
 use Rattle.plan.specs.declared.Reading.{Reading}
-use Rattle.plan.specs.declared.Outcome.the-variants.{Read, Refused}
-use Rattle.plan.specs.Reading.{causeIn, placeIn, emptySet, flowAt, refused, unless, fallsTo, recordCause, readAfterLinks, readPlan}
+use Rattle.flows.specs.declared.Outcome.the-variants.{Read, Refused}
+use Rattle.flows.specs.Refusals.{causeIn, placeIn}
+use Rattle.plan.specs.Reading.{emptySet, flowAt, refused, unless, fallsTo, recordCause, readAfterLinks, readPlan}
 use Rattle.plan.specs.Writing.{linksBytes, flowBytes, flowsBytes, planBytes, planLength}
 use Rattle.plan.specs.Demands.{InForm, StartsLinks, StartsFlow, StartsEnd, After, OfRecord, not-rising, by-itself, no-room, Unread, no-links, unfit-links, no-record, of-flow, after-end}
 use Rattle.flows.proofs.Causes.{accepted-only, not-accepted, refused-never}

@@ -14,11 +14,11 @@ use Rattle.row.specs.Sets.{Readable}
 use Rattle.records.specs.Kinds.{endKind}
 use Rattle.records.specs.Bodies.{Bytes}
 use Rattle.plan.specs.declared.FlowSet.{FlowSet}
-use Rattle.plan.specs.declared.Outcome.the-variants.{Read}
-use Rattle.plan.specs.declared.Outcome.the-variants as outcome
+use Rattle.flows.specs.declared.Outcome.the-variants.{Read}
+use Rattle.flows.specs.declared.Outcome.the-variants as outcome
 use Rattle.plan.specs.declared.Reading.{Reading}
-use Rattle.plan.specs.declared.Written.{Written}
-use Rattle.plan.specs.declared.Written.the-variants.{Length, Refused}
+use Rattle.flows.specs.declared.Written.{Written}
+use Rattle.flows.specs.declared.Written.the-variants.{Length, Refused}
 use Rattle.plan.specs.Reading.{emptySet, readPlan}
 use Rattle.plan.specs.Writing.{linksBytes, flowBytes, flowsBytes, planBytes, writtenInto, bufferAfter}
 

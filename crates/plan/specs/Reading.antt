@@ -20,17 +20,8 @@ use Rattle.reader.specs.declared.Kind.the-variants.{OfLinks, OfFlow, OfEnd, OfN
 use Rattle.reader.specs.Places.{kindAt}
 use Rattle.plan.specs.declared.FlowSet.{FlowSet}
 use Rattle.plan.specs.declared.Reading.{Reading}
-use Rattle.plan.specs.declared.Outcome.{Outcome}
-use Rattle.plan.specs.declared.Outcome.the-variants.{Read, Refused}
-
--- the cause and the place that an outcome stands for
-abbrev pub causeIn : Outcome → Cause
-causeIn Read = Accepted
-causeIn (Refused cause place) = cause
-
-abbrev pub placeIn : Outcome → ℕ
-placeIn Read = 0
-placeIn (Refused cause place) = place
+use Rattle.flows.specs.declared.Outcome.{Outcome}
+use Rattle.flows.specs.declared.Outcome.the-variants.{Read, Refused}
 
 -- the body of the record at a place: the part of the plan after its kind byte
 abbrev pub bodyAt : List ℕ → ℕ → ℕ → List ℕ

@@ -11,8 +11,8 @@ use Rattle.flows.specs.Lists.{held}
 use Rattle.records.specs.Kinds.{linksKind, linksRecord, flowKind, flowRecord, endKind}
 use Rattle.records.specs.Bodies.{linksWritten, flowWritten}
 use Rattle.plan.specs.declared.FlowSet.{FlowSet}
-use Rattle.plan.specs.declared.Written.{Written}
-use Rattle.plan.specs.declared.Written.the-variants.{Length, Refused}
+use Rattle.flows.specs.declared.Written.{Written}
+use Rattle.flows.specs.declared.Written.the-variants.{Length, Refused}
 
 abbrev pub linksBytes : ℕ → ℕ → List ℕ
 linksBytes lmin lmax = linksKind ∷ linksWritten lmin lmax

@@ -2,8 +2,9 @@
 use flows::Cause;
 use flows::FLOWS;
 use flows::Flow;
-use flows::Refusal;
+use flows::Outcome;
 use flows::Row;
+use flows::Written;
 use reader::Kind;
 ghost use mathlib.Core.Path.{_≡_};
 ghost use mathlib.Core.List.{_++_};
@@ -11,7 +12,7 @@ ghost use Prim.Native.Nat.{_+_, _*_, _≤_};
 ghost use lib.ListN.{length, take, drop};
 ghost use Rattle.flows.specs.Lists.{held};
 ghost use Rattle.records.specs.Kinds.{linksRecord, flowRecord};
-ghost use Rattle.plan.specs.Reading.{causeIn, placeIn, flowAt, refused, recordCause, readEnd, readAfterLinks, readPlan, fallsTo};
+ghost use Rattle.plan.specs.Reading.{flowAt, refused, recordCause, readEnd, readAfterLinks, readPlan, fallsTo};
 ghost use Rattle.plan.specs.Writing.{linksBytes, flowBytes, flowsBytes, writtenInto, bufferAfter};
 ghost use Rattle.plan.specs.Demands.{WasRead, SetRead, SetWritten};
 
@@ -22,22 +23,10 @@ pub struct FlowSet {
     pub row: Row,
 }
 
-// All records were read, or the first that is refused, with its place.
-pub enum Outcome {
-    Read,
-    Refused(Cause, usize),
-}
-
 // The set that the records list; if one is refused, the empty set with both link delays 0.
 pub struct Reading {
     pub outcome: Outcome,
     pub set: FlowSet,
-}
-
-// The length of the plan that was written, or the refusal of the buffer.
-pub enum Written {
-    Length(usize),
-    Refused(Refusal),
 }
 
 fn refuse(cause: Cause, place: usize) -> Reading
@@ -51,25 +40,6 @@ fn refuse(cause: Cause, place: usize) -> Reading
         row,
     };
     Reading { outcome, set }
-}
-
-// The cause that an outcome stands for.
-pub fn cause_in(outcome: Outcome) -> Cause
-    ensures { λ r. ⌜ r ≡ causeIn outcome ⌝ }
-{
-    match outcome {
-        Outcome::Read => Cause::Accepted,
-        Outcome::Refused(cause, _) => cause,
-    }
-}
-
-pub fn place_in(outcome: Outcome) -> usize
-    ensures { λ r. ⌜ r ≡ placeIn outcome ⌝ }
-{
-    match outcome {
-        Outcome::Read => 0,
-        Outcome::Refused(_, place) => place,
-    }
 }
 
 // A number that does not rise; 0 is refused as a number and not for its order.

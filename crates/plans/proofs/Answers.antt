@@ -18,12 +18,13 @@ use Rattle.flows.specs.Lists.{mostFlows, held, rowOf, netOf}
 use Rattle.row.proofs.Valid.{readable-valid}
 use Rattle.records.proofs.RoundTrip.{bytes-fit}
 use Rattle.plan.specs.declared.FlowSet.{FlowSet}
-use Rattle.plan.specs.declared.Outcome.{Outcome}
-use Rattle.plan.specs.declared.Outcome.the-variants.{Read, Refused}
+use Rattle.flows.specs.declared.Outcome.{Outcome}
+use Rattle.flows.specs.declared.Outcome.the-variants.{Read, Refused}
 use Rattle.plan.specs.declared.Reading.{Reading}
-use Rattle.plan.specs.Reading.{causeIn, placeIn, readPlan}
+use Rattle.flows.specs.Refusals.{causeIn, placeIn}
+use Rattle.plan.specs.Reading.{readPlan}
 use Rattle.plan.specs.Demands.{WasRead}
-use Rattle.plan.proofs.Outcome.{the-type}
+use Rattle.flows.proofs.Outcome.{the-type}
 use Rattle.plan.proofs.Sets.{read-proper}
 use Rattle.engine.specs.declared.Verdict.{Verdict}
 use Rattle.engine.specs.Verdicts.{noFigures, verdictOf}

@@ -19,7 +19,7 @@ use Rattle.flows.proofs.Passed.{exact-from}
 use Rattle.records.specs.Bodies.{Bytes}
 use Rattle.records.proofs.RoundTrip.{bytes-fit}
 use Rattle.plan.specs.declared.FlowSet.{FlowSet}
-use Rattle.plan.specs.declared.Written.{Written}
+use Rattle.flows.specs.declared.Written.{Written}
 use Rattle.plan.specs.Writing.{setBytes, writtenInto, bufferAfter}
 use Rattle.plan.specs.Demands.{WasRead}
 use Rattle.plan.proofs.Sets.{read-proper}

@@ -16,9 +16,10 @@ use Rattle.flows.proofs.Causes.{accepted-only}
 use Rattle.records.specs.Bodies.{Bytes}
 use Rattle.reader.proofs.Places.{impossible}
 use Rattle.plan.specs.declared.FlowSet.{FlowSet}
-use Rattle.plan.specs.declared.Outcome.{Outcome}
-use Rattle.plan.specs.declared.Outcome.the-variants.{Read, Refused}
-use Rattle.plan.specs.Reading.{causeIn, placeIn, readPlan}
+use Rattle.flows.specs.declared.Outcome.{Outcome}
+use Rattle.flows.specs.declared.Outcome.the-variants.{Read, Refused}
+use Rattle.flows.specs.Refusals.{causeIn, placeIn}
+use Rattle.plan.specs.Reading.{readPlan}
 use Rattle.plan.specs.Writing.{setBytes}
 use Rattle.plan.proofs.Unread.{place-inside}
 use Rattle.plan.proofs.Sets.{Proper, read-proper, write-read-set, read-write}

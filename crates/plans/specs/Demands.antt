@@ -14,7 +14,7 @@ use Rattle.flows.specs.Lists.{netOf}
 use Rattle.flows.specs.WellFormed.{Exact}
 use Rattle.records.specs.Bodies.{Bytes}
 use Rattle.plan.specs.declared.FlowSet.{FlowSet}
-use Rattle.plan.specs.declared.Written.{Written}
+use Rattle.flows.specs.declared.Written.{Written}
 use Rattle.plan.specs.Writing.{setBytes}
 use Rattle.plan.specs.Demands.{size, WritesBack, SetWritten}
 use Rattle.engine.specs.Verdicts.{verdictFrom}

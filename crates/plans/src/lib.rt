@@ -2,10 +2,10 @@
 use flows::Answer;
 use flows::Cause;
 use flows::FLOWS;
+use flows::Outcome;
 use flows::Table;
+use flows::Written;
 use plan::FlowSet;
-use plan::Outcome;
-use plan::Written;
 ghost use mathlib.Core.Path.{_≡_};
 ghost use lib.ListN.{length};
 ghost use Rattle.flows.specs.Lists.{held};
@@ -67,7 +67,7 @@ pub fn read_plan(plan: &[u8]) -> Answer
     let reading = plan::read(plan);
     let outcome = reading.outcome;
     let Outcome::Read = outcome else {
-        return refuse(plan::cause_in(outcome), plan::place_in(outcome));
+        return refuse(flows::cause_in(outcome), flows::place_in(outcome));
     };
     let set = reading.set;
     judge_set(set)

@@ -1,43 +1,64 @@
--- The kind of the record at a place: a law for each way out, and what a kind says of the plan's bytes.
+-- The table of kinds, a law for each way out, and what a kind says of the bytes at its place.
 use Prim.Native.Nat.{ℕ, _+_, _-_, _≤_, _<_}
-use mathlib.Core.Path.{_≡_, refl}
+use mathlib.Core.Path.{_≡_, refl, sym, ap, _∙_, subst}
 use mathlib.Core.Bool.{Bool, true, false, cond}
-use mathlib.Core.List.{List}
+use mathlib.Core.List.{List, [], _∷_}
+use mathlib.Core.Logic.{_⊎_, inl, inr}
 use native.Mathlib.Omega.{arith}
 use lib.ListN.{length, getD}
 use lib.Dec.{leb, ltb, eqb}
-use borrow.Author.Tests.{eq-eqb, ne-eqb, lt-ltb, le-ltb, le-leb, lt-leb, eqb-true, ltb-false, leb-false}
-use Rattle.records.specs.Kinds.{linksKind, linksBody, flowKind, flowBody, endKind}
+use borrow.Author.Tests.{eq-eqb, ne-eqb, lt-ltb, le-ltb, le-leb, lt-leb, eqb-true, eqb-false, ltb-false, leb-false}
+use types.Run.{OneOf, miss}
+use denote.Enum.Declared.{tagOf}
+use Rattle.records.specs.Kinds.{linksKind, flowKind, endKind, countKind, lineKind, closeKind}
 use Rattle.reader.specs.declared.Kind.{Kind}
-use Rattle.reader.specs.declared.Kind.the-variants.{OfLinks, OfFlow, OfEnd, OfNone}
-use Rattle.reader.specs.Places.{kindOf, kindAt}
+use Rattle.reader.specs.declared.Kind.the-variants.{OfLinks, OfFlow, OfEnd, OfCount, OfLine, OfClose, OfNone}
+use Rattle.reader.specs.Places.{byteOf, bodyOf, kindNamed, kindOf, kindAt, ifKind}
+use Rattle.reader.proofs.Kind.{the-type}
 
-module _ (kind left : ℕ) where
-  pub kind-end : kind ≡ endKind → OfEnd ≡ kindOf kind left
-  unfolding kindOf
-  kind-end h = rw (eq-eqb _ _ h)
+-- ---- the table: a kind's byte names it, and no other byte does
+named-byte : (k : Kind) → kindNamed (byteOf k) ≡ k
+unfolding kindNamed
+named-byte OfLinks = refl
+named-byte OfFlow = refl
+named-byte OfEnd = refl
+named-byte OfCount = refl
+named-byte OfLine = refl
+named-byte OfClose = refl
+named-byte OfNone = refl
 
-  module _ (e : kind ≡ endKind → ⊥) where
-    pub kind-links-short : kind ≡ linksKind → left < linksBody → OfNone ≡ kindOf kind left
-    unfolding kindOf
-    kind-links-short h g = rw (ne-eqb _ _ e, eq-eqb _ _ h, lt-ltb _ _ g)
+pub named-as : (k : Kind) (x : ℕ) → x ≡ byteOf k → k ≡ kindNamed x
+named-as k x e = sym (named-byte k) ∙ ap kindNamed (sym e)
 
-    pub kind-links : kind ≡ linksKind → linksBody ≤ left → OfLinks ≡ kindOf kind left
-    unfolding kindOf
-    kind-links h g = rw (ne-eqb _ _ e, eq-eqb _ _ h, le-ltb _ _ g)
+pub named-none : (x : ℕ) → (x ≡ linksKind → ⊥) → (x ≡ flowKind → ⊥) → (x ≡ endKind → ⊥) → (x ≡ countKind → ⊥) → (x ≡ lineKind → ⊥) →
+    (x ≡ closeKind → ⊥) → OfNone ≡ kindNamed x
+unfolding kindNamed
+named-none x a b c d e f = rw (ne-eqb _ _ a, ne-eqb _ _ b, ne-eqb _ _ c, ne-eqb _ _ d, ne-eqb _ _ e, ne-eqb _ _ f)
 
-    module _ (l : kind ≡ linksKind → ⊥) where
-      pub kind-flow-short : kind ≡ flowKind → left < flowBody → OfNone ≡ kindOf kind left
-      unfolding kindOf
-      kind-flow-short h g = rw (ne-eqb _ _ e, ne-eqb _ _ l, eq-eqb _ _ h, lt-ltb _ _ g)
+byte-named : (x : ℕ) → (kindNamed x ≡ OfNone → ⊥) → byteOf (kindNamed x) ≡ x
+unfolding kindNamed
+byte-named x =
+    go (eqb x linksKind) (eqb x flowKind) (eqb x endKind) (eqb x countKind) (eqb x lineKind) (eqb x closeKind) refl refl refl refl refl refl
+  where
+    go : (p q r s t u : Bool) → eqb x linksKind ≡ p → eqb x flowKind ≡ q → eqb x endKind ≡ r → eqb x countKind ≡ s → eqb x lineKind ≡ t →
+        eqb x closeKind ≡ u →
+        (cond p OfLinks (cond q OfFlow (cond r OfEnd (cond s OfCount (cond t OfLine (cond u OfClose OfNone))))) ≡ OfNone → ⊥) →
+        byteOf (cond p OfLinks (cond q OfFlow (cond r OfEnd (cond s OfCount (cond t OfLine (cond u OfClose OfNone)))))) ≡ x
+    go true q r s t u e₀ e₁ e₂ e₃ e₄ e₅ n = sym (eqb-true _ _ e₀)
+    go false true r s t u e₀ e₁ e₂ e₃ e₄ e₅ n = sym (eqb-true _ _ e₁)
+    go false false true s t u e₀ e₁ e₂ e₃ e₄ e₅ n = sym (eqb-true _ _ e₂)
+    go false false false true t u e₀ e₁ e₂ e₃ e₄ e₅ n = sym (eqb-true _ _ e₃)
+    go false false false false true u e₀ e₁ e₂ e₃ e₄ e₅ n = sym (eqb-true _ _ e₄)
+    go false false false false false true e₀ e₁ e₂ e₃ e₄ e₅ n = sym (eqb-true _ _ e₅)
+    go false false false false false false e₀ e₁ e₂ e₃ e₄ e₅ n = absurd (n refl)
 
-      pub kind-flow : kind ≡ flowKind → flowBody ≤ left → OfFlow ≡ kindOf kind left
-      unfolding kindOf
-      kind-flow h g = rw (ne-eqb _ _ e, ne-eqb _ _ l, eq-eqb _ _ h, le-ltb _ _ g)
+pub body-short : (x left : ℕ) (k : Kind) (n : ℕ) → k ≡ kindNamed x → n ≡ bodyOf k → left < n → OfNone ≡ kindOf x left
+unfolding kindOf
+body-short x left k n e g h = let i : left < bodyOf (kindNamed x) = rw (← e, ← g) h in rw (lt-ltb _ _ i)
 
-      pub kind-unknown : (kind ≡ flowKind → ⊥) → OfNone ≡ kindOf kind left
-      unfolding kindOf
-      kind-unknown h = rw (ne-eqb _ _ e, ne-eqb _ _ l, ne-eqb _ _ h)
+pub body-whole : (x left : ℕ) (k : Kind) (n : ℕ) → k ≡ kindNamed x → n ≡ bodyOf k → n ≤ left → k ≡ kindOf x left
+unfolding kindOf
+body-whole x left k n e g h = let i : bodyOf (kindNamed x) ≤ left = rw (← e, ← g) h in rw (le-ltb _ _ i) e
 
 pub at-none : (b : List ℕ) (at : ℕ) → length b ≤ at → OfNone ≡ kindAt b at
 unfolding kindAt
@@ -47,18 +68,52 @@ pub at-some : (b : List ℕ) (at : ℕ) (k : Kind) → at < length b → k ≡ k
 unfolding kindAt
 at-some b at k h e = rw (lt-leb _ _ h) e
 
--- ---- a kind that was found: its byte and its whole body are there
-pub record Whole (b : List ℕ) (at kind body : ℕ) : Type 0 where
-  pub byte : getD b at 0 ≡ kind
-  pub room : at + 1 + body ≤ length b
+-- ---- two kinds are the same or not
+same-kind : (k w : Kind) → byteOf k ≡ byteOf w → k ≡ w
+same-kind k w e = sym (named-byte k) ∙ ap kindNamed e ∙ named-byte w
 
-module _ (b : List ℕ) (at : ℕ) where
-  -- k is what kindAt computes to, by the outcomes of its tests
-  pub found : {A : Type 0} (k : Kind) → k ≡ kindAt b at → (k ≡ OfNone → A) →
-      (Whole b at endKind 0 → k ≡ OfEnd → A) → (Whole b at linksKind linksBody → k ≡ OfLinks → A) → (Whole b at flowKind flowBody → k ≡ OfFlow → A) → A
+pub is-kind : (k w : Kind) → (k ≡ w) ⊎ (k ≡ w → ⊥)
+is-kind k w = go (eqb (byteOf k) (byteOf w)) refl
+  where
+    go : (p : Bool) → eqb (byteOf k) (byteOf w) ≡ p → (k ≡ w) ⊎ (k ≡ w → ⊥)
+    go true e = inl (same-kind k w (eqb-true _ _ e))
+    go false e = inr (λ h. eqb-false _ _ e (ap byteOf h))
+
+module _ {A : Type 0} (k w : Kind) (x y : A) where
+  pub if-here : k ≡ w → ifKind k w x y ≡ x
+  unfolding ifKind
+  if-here e = rw (eq-eqb _ _ (ap byteOf e))
+
+  pub if-other : (k ≡ w → ⊥) → ifKind k w x y ≡ y
+  unfolding ifKind
+  if-other n = rw (ne-eqb _ _ (λ h. n (same-kind k w h)))
+
+-- what a `let .. else` knows of a kind that it did not match: its key is among the others
+abbrev others : ℕ → List ℕ → List ℕ
+others n [] = []
+others n (m ∷ l) = cond (eqb n m) (others n l) (m ∷ others n l)
+
+abbrev pub Other : Kind → Kind → Type 0
+Other w k = OneOf (others (tagOf the-type w) (0 ∷ 1 ∷ 2 ∷ 3 ∷ 4 ∷ 5 ∷ 6 ∷ [])) (tagOf the-type k)
+
+pub other-kind : (w k : Kind) → Other w k → k ≡ w → ⊥
+other-kind OfLinks k o e = miss (1 ∷ 2 ∷ 3 ∷ 4 ∷ 5 ∷ 6 ∷ []) 0 tt (subst (Other OfLinks) e o)
+other-kind OfFlow k o e = miss (0 ∷ 2 ∷ 3 ∷ 4 ∷ 5 ∷ 6 ∷ []) 1 tt (subst (Other OfFlow) e o)
+other-kind OfEnd k o e = miss (0 ∷ 1 ∷ 3 ∷ 4 ∷ 5 ∷ 6 ∷ []) 2 tt (subst (Other OfEnd) e o)
+other-kind OfCount k o e = miss (0 ∷ 1 ∷ 2 ∷ 4 ∷ 5 ∷ 6 ∷ []) 3 tt (subst (Other OfCount) e o)
+other-kind OfLine k o e = miss (0 ∷ 1 ∷ 2 ∷ 3 ∷ 5 ∷ 6 ∷ []) 4 tt (subst (Other OfLine) e o)
+other-kind OfClose k o e = miss (0 ∷ 1 ∷ 2 ∷ 3 ∷ 4 ∷ 6 ∷ []) 5 tt (subst (Other OfClose) e o)
+other-kind OfNone k o e = miss (0 ∷ 1 ∷ 2 ∷ 3 ∷ 4 ∷ 5 ∷ []) 6 tt (subst (Other OfNone) e o)
+
+-- ---- a kind that was found: its byte and its whole body are there
+pub record Whole (b : List ℕ) (at : ℕ) (k : Kind) : Type 0 where
+  pub byte : getD b at 0 ≡ byteOf k
+  pub room : at + 1 + bodyOf k ≤ length b
+
+module _ (b : List ℕ) (at : ℕ) (k : Kind) where
+  pub whole : k ≡ kindAt b at → (k ≡ OfNone → ⊥) → Whole b at k
   unfolding kindAt kindOf
-  found {A} k e none end links flow =
-      go (leb (length b) at) (eqb x endKind) (eqb x linksKind) (ltb left linksBody) (eqb x flowKind) (ltb left flowBody) refl refl refl refl refl refl e
+  whole e n = go (leb (length b) at) (ltb left (bodyOf (kindNamed x))) refl refl e
     where
       x : ℕ
       x = getD b at 0
@@ -66,32 +121,19 @@ module _ (b : List ℕ) (at : ℕ) where
       left : ℕ
       left = length b - (at + 1)
 
-      go : (p q r s t u : Bool) → leb (length b) at ≡ p → eqb x endKind ≡ q → eqb x linksKind ≡ r → ltb left linksBody ≡ s → eqb x flowKind ≡ t →
-          ltb left flowBody ≡ u →
-          k ≡ cond p OfNone (cond q OfEnd (cond r (cond s OfNone OfLinks) (cond t (cond u OfNone OfFlow) OfNone))) → A
-      go true q r s t u e₀ e₁ e₂ e₃ e₄ e₅ g = none g
-      go false true r s t u e₀ e₁ e₂ e₃ e₄ e₅ g =
-          let h = leb-false (length b) at e₀ in end (record { byte = eqb-true _ _ e₁; room = omega arith }) g
-      go false false true true t u e₀ e₁ e₂ e₃ e₄ e₅ g = none g
-      go false false true false t u e₀ e₁ e₂ e₃ e₄ e₅ g =
-          let h = leb-false (length b) at e₀ in
-          let i = ltb-false left linksBody e₃ in links (record { byte = eqb-true _ _ e₂; room = omega arith }) g
-      go false false false s true true e₀ e₁ e₂ e₃ e₄ e₅ g = none g
-      go false false false s true false e₀ e₁ e₂ e₃ e₄ e₅ g =
-          let h = leb-false (length b) at e₀ in
-          let i = ltb-false left flowBody e₅ in flow (record { byte = eqb-true _ _ e₄; room = omega arith }) g
-      go false false false s false u e₀ e₁ e₂ e₃ e₄ e₅ g = none g
+      go : (p q : Bool) → leb (length b) at ≡ p → ltb left (bodyOf (kindNamed x)) ≡ q → k ≡ cond p OfNone (cond q OfNone (kindNamed x)) → Whole b at k
+      go true q i j g = absurd (n g)
+      go false true i j g = absurd (n g)
+      go false false i j g =
+          let h = leb-false (length b) at i in
+          let r : bodyOf k ≤ left = rw g (ltb-false left (bodyOf (kindNamed x)) j) in
+          record { byte = sym (byte-named x (λ m. n (g ∙ m))) ∙ ap byteOf (sym g); room = omega arith }
 
--- a kind other than the one asked for
+  pub found : Whole b at k → kindAt b at ≡ k
+  found w =
+      sym (at-some b at k (omega (arith, w .room))
+      (body-whole _ _ k _ (named-as k _ (w .byte)) refl (omega (arith, w .room))))
+
+-- kinds, and answers, that differ
 pub impossible : {A : Type 0} → _≡_ {A = ℕ} 0 1 → A
 impossible e = absurd (omega arith)
-
-module _ (b : List ℕ) (at : ℕ) (k : Kind) (e : k ≡ kindAt b at) where
-  pub whole-end : k ≡ OfEnd → Whole b at endKind 0
-  whole-end h = found b at k e (λ g. impossible (cc)) (λ w g. w) (λ w g. impossible (cc)) (λ w g. impossible (cc))
-
-  pub whole-links : k ≡ OfLinks → Whole b at linksKind linksBody
-  whole-links h = found b at k e (λ g. impossible (cc)) (λ w g. impossible (cc)) (λ w g. w) (λ w g. impossible (cc))
-
-  pub whole-flow : k ≡ OfFlow → Whole b at flowKind flowBody
-  whole-flow h = found b at k e (λ g. impossible (cc)) (λ w g. impossible (cc)) (λ w g. impossible (cc)) (λ w g. w)

@@ -4,7 +4,7 @@ use mathlib.Core.Path.{_≡_}
 use mathlib.Core.List.{List, [], _∷_}
 use lib.ListN.{getD}
 use Rattle.records.specs.Kinds.{flowNodes}
-use Rattle.records.specs.Bodies.{wordAt, bytesFrom, wordsFrom, linksRead, flowRead}
+use Rattle.records.specs.Bodies.{wordAt, bytesFrom, wordsFrom, linksRead, flowRead, lineRead}
 
 module _ (b : List ℕ) where
   pub links-made : (l m : ℕ) → l ≡ wordAt b 0 → m ≡ wordAt b 2 → record { lmin = l; lmax = m } ≡ linksRead b
@@ -29,3 +29,7 @@ module _ (b : List ℕ) where
         costs = costs;
       } ≡ flowRead b
   flow-made nodes costs t j d e₀ e₁ e₂ e₃ e₄ = rw (e₀, e₁, e₂, e₃, e₄)
+
+  pub line-made : (bound jitter busy : ℕ) → bound ≡ wordAt b 1 → jitter ≡ wordAt b 3 → busy ≡ wordAt b 5 →
+      record { number = getD b 0 0; figures = record { bound = bound; jitter = jitter; busy = busy } } ≡ lineRead b
+  line-made bound jitter busy e₀ e₁ e₂ = rw (e₀, e₁, e₂)

@@ -9,8 +9,9 @@ use mir.Val.{Fits}
 use mir.Syntax.{w8}
 use Rattle.flows.specs.declared.Flow.{Flow}
 use Rattle.flows.specs.WellFormed.{Typed}
-use Rattle.records.specs.Kinds.{linksBody, flowBody, flowNodes}
-use Rattle.records.specs.Bodies.{Bytes, bytesFrom, wordsFrom, linksRead, flowRead, wordsWritten, linksWritten, flowWritten}
+use Rattle.records.specs.declared.Line.{Line}
+use Rattle.records.specs.Kinds.{linksBody, flowBody, flowNodes, lineBody}
+use Rattle.records.specs.Bodies.{Bytes, bytesFrom, wordsFrom, linksRead, flowRead, wordsWritten, linksWritten, flowWritten, lineRead, lineWritten, TypedLine}
 
 -- what a slice of bytes holds
 pub bytes-fit : (b : List ℕ) → ((k : ℕ) → Fits w8 (getD b k 0)) → Bytes b
@@ -69,14 +70,25 @@ flow-again f t = rw (spelt-is f t) at (read-spelt f t)
 pub links-again : (lmin lmax : ℕ) → lmin < 65536 → lmax < 65536 → linksRead (linksWritten lmin lmax) ≡ record { lmin = lmin; lmax = lmax }
 links-again lmin lmax h g = rw (high-low lmin h, high-low lmax g)
 
+pub line-back : (b : List ℕ) → length b ≡ lineBody → Bytes b → lineWritten (lineRead b) ≡ b
+unfolding lineWritten wordsWritten
+line-back b h u = simp (high-of, low-of, u) (all-bytes lineBody b h)
+
+pub line-again : (l : Line) → TypedLine l → lineRead (lineWritten l) ≡ l
+unfolding lineWritten wordsWritten
+line-again l t = rw (high-low (l .figures .bound) (t .bound), high-low (l .figures .jitter) (t .jitter), high-low (l .figures .busy) (t .busy))
+
 -- what a body of bytes says is within the types
+word-below : {x y : ℕ} → x < 256 → y < 256 → x * 256 + y < 65536
+word-below h g = omega arith
+
 pub read-typed : (b : List ℕ) → Bytes b → Typed (flowRead b)
 read-typed b u = record {
   number = u 0;
   priority = u 1;
-  period = word (u 2) (u 3);
-  jitter = word (u 4) (u 5);
-  deadline = word (u 6) (u 7);
+  period = word-below (u 2) (u 3);
+  jitter = word-below (u 4) (u 5);
+  deadline = word-below (u 6) (u 7);
   path = u 8;
   nodes = refl;
   costs = refl;
@@ -84,9 +96,6 @@ read-typed b u = record {
   cost = words-below 17 flowNodes;
 }
   where
-    word : {x y : ℕ} → x < 256 → y < 256 → x * 256 + y < 65536
-    word h g = omega arith
-
     bytes-below : (at n k : ℕ) → getD (bytesFrom at n b) k 0 < 256
     bytes-below at zero k = omega arith
     bytes-below at (suc n) zero = u at
@@ -94,5 +103,13 @@ read-typed b u = record {
 
     words-below : (at n k : ℕ) → getD (wordsFrom at n b) k 0 < 65536
     words-below at zero k = omega arith
-    words-below at (suc n) zero = word (u at) (u (at + 1))
+    words-below at (suc n) zero = word-below (u at) (u (at + 1))
     words-below at (suc n) (suc k) = words-below (suc (suc at)) n k
+
+pub line-typed : (b : List ℕ) → Bytes b → TypedLine (lineRead b)
+line-typed b u = record {
+  number = u 0;
+  bound = word-below (u 1) (u 2);
+  jitter = word-below (u 3) (u 4);
+  busy = word-below (u 5) (u 6);
+}

@@ -7,8 +7,9 @@ use native.Mathlib.Omega.{arith}
 use lib.ListN.{length, getD, take, drop, set, drop-of-length-le, length-append, length-drop}
 use lib.Seq.{sets, sets-eq, set-at, take-suc, take-all, take-at, drop-at, drop-cons, drop-length, append-snoc, length-take-le}
 use Rattle.flows.specs.declared.Flow.{Flow}
-use Rattle.records.specs.Kinds.{flowBody, flowNodes, linksBody}
-use Rattle.records.specs.Bodies.{wordsWritten, linksWritten, headWritten, flowWritten}
+use Rattle.records.specs.declared.Line.{Line}
+use Rattle.records.specs.Kinds.{flowBody, flowNodes, linksBody, lineBody}
+use Rattle.records.specs.Bodies.{wordsWritten, linksWritten, headWritten, flowWritten, lineWritten}
 
 -- stores one after the other over a whole list
 pub sets-all : (vs l : List ℕ) → length vs ≡ length l → sets l 0 vs ≡ vs
@@ -21,6 +22,13 @@ pub links-stored : (old : List ℕ) (lmin lmax a b c d : ℕ) → length old ≡
     a ≡ lmin / 256 % 256 → b ≡ lmin % 256 → c ≡ lmax / 256 % 256 → d ≡ lmax % 256 →
     set (set (set (set old 0 a) 1 b) 2 c) 3 d ≡ linksWritten lmin lmax
 links-stored old lmin lmax a b c d h e₀ e₁ e₂ e₃ = rw (e₀, e₁, e₂, e₃) (sets-all (linksWritten lmin lmax) old (sym h))
+
+pub line-stored : (old : List ℕ) (l : Line) (a b c d e f : ℕ) → length old ≡ lineBody →
+    a ≡ l .figures .bound / 256 % 256 → b ≡ l .figures .bound % 256 → c ≡ l .figures .jitter / 256 % 256 → d ≡ l .figures .jitter % 256 →
+    e ≡ l .figures .busy / 256 % 256 → f ≡ l .figures .busy % 256 →
+    set (set (set (set (set (set (set old 0 (l .number)) 1 a) 2 b) 3 c) 4 d) 5 e) 6 f ≡ lineWritten l
+unfolding lineWritten wordsWritten
+line-stored old l a b c d e f h e₀ e₁ e₂ e₃ e₄ e₅ = rw (e₀, e₁, e₂, e₃, e₄, e₅) (sets-all (lineWritten l) old (sym h))
 
 -- ---- the nodes
 module _ (nodes old out : List ℕ) (k : ℕ) (ln : length nodes ≡ flowNodes) (lo : length old ≡ flowNodes) (inv : out ≡ take k nodes ++ drop k old) where

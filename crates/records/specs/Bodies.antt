@@ -1,9 +1,10 @@
--- The layout of each body: what its bytes say, and the bytes that say it. RULES, the plan.
+-- The layout of each body: what its bytes say, and the bytes that say it. RULES, the plan, the report.
 use Prim.Native.Nat.{ℕ, zero, suc, _+_, _*_, _/_, _%_, _<_}
 use mathlib.Core.List.{List, [], _∷_, _++_}
 use lib.ListN.{getD}
 use Rattle.flows.specs.declared.Flow.{Flow}
 use Rattle.records.specs.declared.Links.{Links}
+use Rattle.records.specs.declared.Line.{Line}
 use Rattle.records.specs.Kinds.{flowNodes}
 
 -- what the type of a slice of bytes says
@@ -53,3 +54,17 @@ headWritten f =
 
 unfoldable pub flowWritten : Flow → List ℕ
 flowWritten f = headWritten f ++ f .nodes ++ wordsWritten (f .costs)
+
+-- number, then bound, jitter and busy length
+abbrev pub lineRead : List ℕ → Line
+lineRead b = record { number = getD b 0 0; figures = record { bound = wordAt b 1; jitter = wordAt b 3; busy = wordAt b 5 } }
+
+unfoldable pub lineWritten : Line → List ℕ
+lineWritten l = l .number ∷ wordsWritten (l .figures .bound ∷ l .figures .jitter ∷ l .figures .busy ∷ [])
+
+-- what the types of a line's fields say
+pub record TypedLine (l : Line) : Type 0 where
+  pub number : l .number < 256
+  pub bound : l .figures .bound < 65536
+  pub jitter : l .figures .jitter < 65536
+  pub busy : l .figures .busy < 65536

@@ -1,10 +1,11 @@
-// The kinds of a plan's records, and their bodies read and written; of a two-byte number the high byte comes first. RULES, the plan.
+// The kinds of a plan's and of a report's records, and their bodies read and written; of a two-byte number the high byte comes first. RULES, the plan, the report.
+use flows::Figures;
 use flows::Flow;
 ghost use mathlib.Core.Path.{_≡_};
 ghost use Prim.Native.Nat.{_+_, _*_, _/_, _%_, _<_};
 ghost use lib.ListN.{length};
-ghost use Rattle.records.specs.Kinds.{linksBody, flowBody, flowNodes};
-ghost use Rattle.records.specs.Bodies.{wordAt, bytesFrom, wordsFrom, linksRead, flowRead, linksWritten, headWritten, wordsWritten, flowWritten};
+ghost use Rattle.records.specs.Kinds.{linksBody, flowBody, flowNodes, lineBody};
+ghost use Rattle.records.specs.Bodies.{wordAt, bytesFrom, wordsFrom, linksRead, flowRead, linksWritten, headWritten, wordsWritten, flowWritten, lineRead, lineWritten};
 
 pub const LINKS_KIND: u8 = 0x01;
 
@@ -12,14 +13,28 @@ pub const FLOW_KIND: u8 = 0x02;
 
 pub const END_KIND: u8 = 0x7F;
 
+pub const COUNT_KIND: u8 = 0x10;
+
+pub const LINE_KIND: u8 = 0x11;
+
+pub const CLOSE_KIND: u8 = 0x1F;
+
 pub const LINKS_BODY: usize = 4;
 
 pub const FLOW_BODY: usize = 33;
+
+pub const COUNT_BODY: usize = 1;
+
+pub const LINE_BODY: usize = 7;
 
 // A whole record is its kind and its body.
 pub const LINKS_RECORD: usize = 1 + LINKS_BODY;
 
 pub const FLOW_RECORD: usize = 1 + FLOW_BODY;
+
+pub const COUNT_RECORD: usize = 1 + COUNT_BODY;
+
+pub const LINE_RECORD: usize = 1 + LINE_BODY;
 
 // Kind 02 has eight nodes and costs, whatever a path may have at most.
 const FLOW_NODES: usize = 8;
@@ -27,6 +42,12 @@ const FLOW_NODES: usize = 8;
 pub struct Links {
     pub lmin: u16,
     pub lmax: u16,
+}
+
+// A line of a report: a flow's number and its figures.
+pub struct Line {
+    pub number: u8,
+    pub figures: Figures,
 }
 
 fn join(high: u8, low: u8) -> u16
@@ -171,4 +192,33 @@ pub fn write_flow(body: &mut [u8], f: Flow)
     write_head(&mut body[0..9], f);
     write_nodes(&mut body[9..17], f);
     write_costs(&mut body[17..33], f);
+}
+
+pub fn read_line(body: &[u8]) -> Line
+    requires { ⌜ length (now body) ≡ lineBody ⌝ }
+    ensures { λ r. ⌜ r ≡ lineRead (now (body .entry)) ⌝ }
+{
+    let figures = Figures {
+        bound: word_at(body, 1),
+        jitter: word_at(body, 3),
+        busy: word_at(body, 5),
+    };
+    Line {
+        number: body[0],
+        figures,
+    }
+}
+
+pub fn write_line(body: &mut [u8], line: Line)
+    requires { ⌜ length (now body) ≡ lineBody ⌝ }
+    ensures { λ r. ⌜ now (body .exit) ≡ lineWritten line ⌝ }
+{
+    let figures = line.figures;
+    body[0] = line.number;
+    body[1] = high(figures.bound);
+    body[2] = low(figures.bound);
+    body[3] = high(figures.jitter);
+    body[4] = low(figures.jitter);
+    body[5] = high(figures.busy);
+    body[6] = low(figures.busy);
 }

@@ -1,9 +1,9 @@
 // What the programs print of plans, tables, bytes and refusals.
 use flows::Figures;
+use flows::Outcome;
 use flows::Refusal;
 use flows::Table;
 use libc::STDOUT_FILENO;
-use plan::Outcome;
 use plan::Reading;
 ghost use Prim.Native.Nat.{_<_};
 
@@ -85,7 +85,7 @@ pub fn print_bytes(bytes: &[u8], n: usize) {
 pub fn print_reading(reading: Reading) {
     let outcome = reading.outcome;
     let Outcome::Read = outcome else {
-        print_refusal(flows::refuse(plan::cause_in(outcome), plan::place_in(outcome)));
+        print_refusal(flows::refuse(flows::cause_in(outcome), flows::place_in(outcome)));
         return;
     };
     let set = reading.set;

@@ -7,7 +7,7 @@ use lib.Dec.{ltb}
 use lib.ListN.{length}
 use borrow.Author.Needs.{needs}
 use borrow.Author.Tests.{ltb-false}
-use Rattle.plan.specs.declared.Written.the-variants.{Length}
+use Rattle.flows.specs.declared.Written.the-variants.{Length}
 use Rattle.plan.specs.Writing.{planLength, writtenInto}
 use Rattle.calls.proofs.write_table.Statement.{statement}
 use Rattle.calls.proofs.write_table.Tie as tie

@@ -6,8 +6,8 @@ use Rattle.plans.proofs.read_plan.Statement.{statement}
 use Rattle.plans.proofs.read_plan.Tie as tie
 use Rattle.plans.proofs.read_plan.Reads as reads
 use Rattle.plans.proofs.read_plan.Lts as lts
-use Rattle.plan.proofs.cause_in.Reads as cause-in-reads
-use Rattle.plan.proofs.place_in.Reads as place-in-reads
+use Rattle.flows.proofs.cause_in.Reads as cause-in-reads
+use Rattle.flows.proofs.place_in.Reads as place-in-reads
 use Rattle.plan.proofs.read.Reads as read-reads
 use Rattle.plans.proofs.judge_set.Reads as judge-set-reads
 use Rattle.plans.proofs.refuse.Reads as refuse-reads
