@@ -11,10 +11,11 @@ use Rattle.flows.specs.Lists.{rowOf}
 use Rattle.flows.specs.Tests.{delayCause, every, hopFits, hopZero, rangesFit, distinct, flowCause}
 use Rattle.row.specs.Rows.{lastNumber}
 use Rattle.records.specs.Bodies.{wordsWritten, flowWritten}
-use Rattle.reader.specs.Places.{kindOf, kindAt}
+use Rattle.records.specs.Rows.{rowBytes}
+use Rattle.reader.specs.Places.{kindNamed, kindOf, kindAt, ifKind}
 use Rattle.flows.specs.Refusals.{causeIn, placeIn}
-use Rattle.plan.specs.Reading.{refused, unless, fallsTo, recordCause, atEnd, ifFlow, readFlows, ifLinks, readPlan}
-use Rattle.plan.specs.Writing.{linksBytes, flowBytes, flowsBytes, planBytes}
+use Rattle.plan.specs.Reading.{refused, unless, fallsTo, recordCause, readEnd, readFlows, readPlan}
+use Rattle.plan.specs.Writing.{linksBytes, flowBytes, planBytes}
 
 -- one node of that number and that cost; T 20, D 60
 flow : ℕ → ℕ → ℕ → Flow
@@ -90,5 +91,5 @@ right : Case → Bool
 right c = eqb (numberOf (causeIn (readPlan (c .bytes) .outcome))) (c .number) && eqb (placeIn (readPlan (c .bytes) .outcome)) (c .place)
 
 all-right : every right cases ≡ true
-unfolding cases right listing flow twice many every planBytes flowsBytes flowWritten wordsWritten readPlan ifLinks kindAt kindOf unless refused delayCause readFlows ifFlow atEnd recordCause fallsTo lastNumber flowCause rangesFit hopFits hopZero distinct rowOf
+unfolding cases right listing flow twice many every planBytes rowBytes flowWritten wordsWritten readPlan kindAt kindNamed kindOf unless refused delayCause readFlows ifKind readEnd recordCause fallsTo lastNumber flowCause rangesFit hopFits hopZero distinct rowOf
 all-right = refl

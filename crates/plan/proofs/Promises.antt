@@ -7,10 +7,10 @@ use lib.ListN.{length, getD, take, drop, length-append, length-drop}
 use lib.Seq.{take-at, drop-at}
 use mir.Val.{Fits}
 use mir.Syntax.{w8}
-use borrow.Author.Tests.{lt-ltb, le-ltb}
 use Rattle.flows.specs.Lists.{held}
 use Rattle.records.specs.Bodies.{Bytes}
 use Rattle.records.proofs.RoundTrip.{bytes-fit}
+use Rattle.records.proofs.Rows.{wrote-short, wrote-all, buffer-kept, buffer-filled}
 use Rattle.plan.specs.declared.FlowSet.{FlowSet}
 use Rattle.flows.specs.declared.Outcome.{Outcome}
 use Rattle.plan.specs.declared.Reading.{Reading}
@@ -36,21 +36,17 @@ module _ (s : FlowSet) (old : List ℕ) where
 
   module _ (h : length old < size s) where
     short-answer : answer ≡ Refused (record { number = 13; flow = 0; place = 0 })
-    unfolding writtenInto
-    short-answer = rw (lt-ltb (length old) (planLength n) (omega arith))
+    short-answer = sym (wrote-short (length old) (planLength n) _ (omega arith) refl)
 
     short-after : after ≡ old
-    unfolding bufferAfter
-    short-after = rw (lt-ltb (length old) (planLength n) (omega arith))
+    short-after = sym (buffer-kept (setBytes s) (planLength n) old (omega arith))
 
   module _ (h : size s ≤ length old) where
     long-answer : answer ≡ Length (size s)
-    unfolding writtenInto
-    long-answer = rw (le-ltb (length old) (planLength n) (omega arith)) (ap Length (plan-length n))
+    long-answer = sym (wrote-all (length old) (planLength n) (omega arith)) ∙ ap Length (plan-length n)
 
     long-after : after ≡ setBytes s ++ drop (size s) old
-    unfolding bufferAfter
-    long-after = rw (le-ltb (length old) (planLength n) (omega arith)) (ap (λ (k : ℕ). setBytes s ++ drop k old) (plan-length n))
+    long-after = sym (buffer-filled (setBytes s) (planLength n) old (omega arith)) ∙ ap (λ (k : ℕ). setBytes s ++ drop k old) (plan-length n)
 
 module _ (s : FlowSet) (p : Proper s) where
   long : length (setBytes s) ≡ size s

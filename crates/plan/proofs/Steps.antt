@@ -19,16 +19,13 @@ use Rattle.records.specs.declared.Links.{Links}
 use Rattle.records.specs.Kinds.{linksRecord, flowBody, flowRecord}
 use Rattle.records.specs.Bodies.{flowRead}
 use Rattle.reader.specs.declared.Kind.{Kind}
-use Rattle.reader.specs.declared.Kind.the-variants.{OfLinks, OfFlow, OfEnd, OfNone}
+use Rattle.reader.specs.declared.Kind.the-variants.{OfLinks, OfFlow, OfEnd}
 use Rattle.plan.specs.declared.Reading.{Reading}
 use Rattle.flows.specs.declared.Outcome.the-variants.{Refused}
-use Rattle.reader.specs.Places.{kindAt}
-use Rattle.plan.specs.Reading.{flowAt, linksAt, refused, listed, unless, fallsTo, recordCause, atEnd, readEnd, ifFlow, readFlows, readAfterLinks, ifLinks, readPlan}
+use Rattle.reader.specs.Places.{kindAt, ifKind}
+use Rattle.plan.specs.Reading.{flowAt, linksAt, refused, listed, unless, fallsTo, recordCause, readEnd, readFlows, readAfterLinks, readPlan}
 use Rattle.row.proofs.Arrays.{held-rowOf, append-list, length-snoc}
-use Rattle.reader.proofs.Kind.{the-type}
-use Rattle.reader.proofs.Places.{at-none}
-use types.Run.{OneOf, hit, miss}
-use denote.Enum.Declared.{tagOf}
+use Rattle.reader.proofs.Places.{at-none, if-here, if-other, Other, other-kind, seen-here, seen-other, impossible}
 
 pub refused-made : (cause : Cause) (place : ℕ) (row : Row) → row ≡ rowOf [] →
     record { outcome = Refused cause place; set = record { lmin = 0; lmax = 0; row = row } } ≡ refused cause place
@@ -71,36 +68,21 @@ module _ (fs : List Flow) (f : Flow) (last : ℕ) (t : Bool) (e : last ≡ lastN
       unfolding recordCause
       record-accepted l = rw (← e, ← g, h, ← i, ← j, not-false u k, ← m, lt-leb _ _ l)
 
--- ---- the end. The keys of a match are the variants in their order: OfLinks 0, OfFlow 1, OfEnd 2, OfNone 3
-no-end : (k : Kind) (lmin lmax : ℕ) (row : Row) (b : List ℕ) (at : ℕ) → OneOf (0 ∷ 1 ∷ 3 ∷ []) (tagOf the-type k) →
-    atEnd k lmin lmax row b at ≡ refused Malformed at
-unfolding atEnd
-no-end OfLinks lmin lmax row b at o = refl
-no-end OfFlow lmin lmax row b at o = refl
-no-end OfEnd lmin lmax row b at o = absurd (miss (0 ∷ 1 ∷ 3 ∷ []) 2 tt o)
-no-end OfNone lmin lmax row b at o = refl
-
+-- ---- the end
 module _ (lmin lmax : ℕ) (row : Row) (b : List ℕ) (at : ℕ) (k : Kind) (e : k ≡ kindAt b at) where
-  pub end-other : (r : Reading) → OneOf (0 ∷ 1 ∷ 3 ∷ []) (tagOf the-type k) → r ≡ refused Malformed at → r ≡ readEnd lmin lmax row b at
-  end-other r o g = rw (← e) (g ∙ sym (no-end k lmin lmax row b at o))
+  pub end-other : (r : Reading) → Other OfEnd k → r ≡ refused Malformed at → r ≡ readEnd lmin lmax row b at
+  unfolding readEnd
+  end-other r o g = g ∙ sym (seen-other b at OfEnd _ _ k e o)
 
   pub end-more : (r : Reading) → k ≡ OfEnd → at + 1 < length b → r ≡ refused Malformed (at + 1) → r ≡ readEnd lmin lmax row b at
-  unfolding atEnd
-  end-more r h l g = rw (← e, h, lt-ltb _ _ l) g
+  unfolding readEnd
+  end-more r h l g = rw (lt-ltb _ _ l) (g ∙ sym (seen-here b at OfEnd _ _ k e h))
 
-  pub end-last : k ≡ OfEnd → length b ≤ at + 1 →
-      listed lmin lmax row ≡ readEnd lmin lmax row b at
-  unfolding atEnd
-  end-last h l = rw (← e, h, le-ltb _ _ l)
+  pub end-last : k ≡ OfEnd → length b ≤ at + 1 → listed lmin lmax row ≡ readEnd lmin lmax row b at
+  unfolding readEnd
+  end-last h l = rw (le-ltb _ _ l) (sym (seen-here b at OfEnd _ _ k e h))
 
 -- ---- the records after the first
-no-flow : (k : Kind) (x y : Reading) → OneOf (0 ∷ 2 ∷ 3 ∷ []) (tagOf the-type k) → ifFlow k x y ≡ y
-unfolding ifFlow
-no-flow OfLinks x y o = refl
-no-flow OfFlow x y o = absurd (miss (0 ∷ 2 ∷ 3 ∷ []) 1 tt o)
-no-flow OfEnd x y o = refl
-no-flow OfNone x y o = refl
-
 -- what follows a flow that is accepted
 unfoldable pub nextAfter : ℕ → ℕ → ℕ → List Flow → List ℕ → ℕ → Reading
 nextAfter zero lmin lmax fs b at = refused Full at
@@ -111,30 +93,25 @@ abbrev flowHere : ℕ → ℕ → ℕ → List Flow → List ℕ → ℕ → Rea
 flowHere room lmin lmax fs b at = unless (recordCause fs (flowAt b at)) at (nextAfter room lmin lmax fs b at)
 
 flows-is : (room lmin lmax : ℕ) (fs : List Flow) (b : List ℕ) (at : ℕ) →
-    readFlows room lmin lmax fs b at ≡ ifFlow (kindAt b at) (flowHere room lmin lmax fs b at) (readEnd lmin lmax (rowOf fs) b at)
+    readFlows room lmin lmax fs b at ≡ ifKind (kindAt b at) OfFlow (flowHere room lmin lmax fs b at) (readEnd lmin lmax (rowOf fs) b at)
 unfolding readFlows nextAfter
 flows-is zero lmin lmax fs b at = refl
 flows-is (suc room) lmin lmax fs b at = refl
 
 -- what stands at the place decides
 module _ (room lmin lmax : ℕ) (fs : List Flow) (b : List ℕ) (at : ℕ) where
-  pub flows-at-none : kindAt b at ≡ OfNone → readFlows room lmin lmax fs b at ≡ refused Malformed at
-  unfolding ifFlow atEnd
-  flows-at-none h = rw (flows-is, h)
-
-  pub flows-at-links : kindAt b at ≡ OfLinks → readFlows room lmin lmax fs b at ≡ refused Malformed at
-  unfolding ifFlow atEnd
-  flows-at-links h = rw (flows-is, h)
+  pub flows-at-other : (kindAt b at ≡ OfFlow → ⊥) → (kindAt b at ≡ OfEnd → ⊥) → readFlows room lmin lmax fs b at ≡ refused Malformed at
+  unfolding readEnd
+  flows-at-other n m = flows-is room lmin lmax fs b at ∙ if-other (kindAt b at) OfFlow _ _ n ∙ if-other (kindAt b at) OfEnd _ _ m
 
   pub flows-at-end : kindAt b at ≡ OfEnd →
       readFlows room lmin lmax fs b at ≡ cond (ltb (at + 1) (length b)) (refused Malformed (at + 1)) (listed lmin lmax (rowOf fs))
-  unfolding ifFlow atEnd
-  flows-at-end h = rw (flows-is, h)
+  unfolding readEnd
+  flows-at-end h = flows-is room lmin lmax fs b at ∙ if-other (kindAt b at) OfFlow _ _ (λ g. impossible (cc)) ∙ if-here (kindAt b at) OfEnd _ _ h
 
   pub flows-at-flow : kindAt b at ≡ OfFlow →
       readFlows room lmin lmax fs b at ≡ unless (recordCause fs (flowAt b at)) at (nextAfter room lmin lmax fs b at)
-  unfolding ifFlow
-  flows-at-flow h = rw (flows-is, h)
+  flows-at-flow h = flows-is room lmin lmax fs b at ∙ if-here (kindAt b at) OfFlow _ _ h
 
 -- a flow is accepted only where there is room
 has-room : (fs : List Flow) (f : Flow) → acceptedBy (recordCause fs f) ≡ true → length fs < mostFlows
@@ -152,27 +129,21 @@ has-room fs f h =
 -- the loop: all that is known at its head, of any answer x
 module _ (lmin lmax : ℕ) (row : Row) (b : List ℕ) (at : ℕ) (x : Reading) (made : row ≡ rowOf (held row))
     (inv : readFlows (mostFlows - length (held row)) lmin lmax (held row) b at ≡ x) where
-  at-kind : Kind → Reading
-  at-kind k = ifFlow k (flowHere (mostFlows - length (held row)) lmin lmax (held row) b at) (readEnd lmin lmax row b at)
-
-  here : at-kind (kindAt b at) ≡ x
-  unfolding at-kind
+  here : ifKind (kindAt b at) OfFlow (flowHere (mostFlows - length (held row)) lmin lmax (held row) b at) (readEnd lmin lmax row b at) ≡ x
   here =
-      ap (λ (r : Row). ifFlow (kindAt b at) (flowHere (mostFlows - length (held row)) lmin lmax (held row) b at) (readEnd lmin lmax r b at)) made ∙
+      ap (λ (r : Row). ifKind (kindAt b at) OfFlow (flowHere (mostFlows - length (held row)) lmin lmax (held row) b at) (readEnd lmin lmax r b at)) made ∙
       sym (flows-is (mostFlows - length (held row)) lmin lmax (held row) b at) ∙ inv
 
-  pub flows-other : (k : Kind) (r : Reading) → k ≡ kindAt b at → OneOf (0 ∷ 2 ∷ 3 ∷ []) (tagOf the-type k) → r ≡ readEnd lmin lmax row b at → r ≡ x
-  unfolding at-kind
-  flows-other k r e o g = g ∙ sym (no-flow k (flowHere (mostFlows - length (held row)) lmin lmax (held row) b at) (readEnd lmin lmax row b at) o) ∙ ap at-kind e ∙ here
+  pub flows-other : (k : Kind) (r : Reading) → k ≡ kindAt b at → Other OfFlow k → r ≡ readEnd lmin lmax row b at → r ≡ x
+  flows-other k r e o g = g ∙ sym (seen-other b at OfFlow _ _ k e o) ∙ here
 
   pub flows-none : (r : Reading) → length b ≤ at → r ≡ readEnd lmin lmax row b at → r ≡ x
-  flows-none r h g = flows-other OfNone r (at-none b at h) (hit (0 ∷ 2 ∷ 3 ∷ []) 3 tt) g
+  flows-none r h g = g ∙ sym (if-other (kindAt b at) OfFlow _ _ (λ m. let z = at-none b at h in impossible (cc))) ∙ here
 
   module _ (k : Kind) (e : k ≡ kindAt b at) (h : k ≡ OfFlow) (f : Flow) (i : f ≡ flowAt b at) (cause : Cause) (j : cause ≡ recordCause (held row) f)
       (t : Bool) (l : t ≡ acceptedBy cause) where
     at-flow : unless cause at (nextAfter (mostFlows - length (held row)) lmin lmax (held row) b at) ≡ x
-    unfolding ifFlow at-kind
-    at-flow = rw (← e, h, ← i, ← j) at here
+    at-flow = rw (← i, ← j) at (sym (seen-here b at OfFlow _ _ k e h) ∙ here)
 
     pub flows-refused : (r : Reading) → not t ≡ true → r ≡ refused cause at → r ≡ x
     unfolding unless
@@ -204,48 +175,31 @@ pub start-made : (row : Row) → row ≡ rowOf [] → row ≡ rowOf (held row)
 start-made row e = e ∙ ap rowOf (sym (ap held e ∙ held-rowOf []))
 
 -- ---- the first record
-no-links : (k : Kind) (x y : Reading) → OneOf (1 ∷ 2 ∷ 3 ∷ []) (tagOf the-type k) → ifLinks k x y ≡ y
-unfolding ifLinks
-no-links OfLinks x y o = absurd (miss (1 ∷ 2 ∷ 3 ∷ []) 0 tt o)
-no-links OfFlow x y o = refl
-no-links OfEnd x y o = refl
-no-links OfNone x y o = refl
-
--- what stands at place 0 decides
 module _ (b : List ℕ) where
   pub plan-at-links : kindAt b 0 ≡ OfLinks →
       readPlan b ≡ unless (delayCause (linksAt b 0 .lmin) (linksAt b 0 .lmax)) 0 (readAfterLinks (linksAt b 0 .lmin) (linksAt b 0 .lmax) b)
-  unfolding readPlan ifLinks
-  plan-at-links e = rw e
+  unfolding readPlan
+  plan-at-links e = if-here (kindAt b 0) OfLinks _ _ e
 
-  pub plan-at-flow : kindAt b 0 ≡ OfFlow → readPlan b ≡ refused Malformed 0
-  unfolding readPlan ifLinks
-  plan-at-flow e = rw e
-
-  pub plan-at-end : kindAt b 0 ≡ OfEnd → readPlan b ≡ refused Malformed 0
-  unfolding readPlan ifLinks
-  plan-at-end e = rw e
-
-  pub plan-at-none : kindAt b 0 ≡ OfNone → readPlan b ≡ refused Malformed 0
-  unfolding readPlan ifLinks
-  plan-at-none e = rw e
+  pub plan-at-other : (kindAt b 0 ≡ OfLinks → ⊥) → readPlan b ≡ refused Malformed 0
+  unfolding readPlan
+  plan-at-other n = if-other (kindAt b 0) OfLinks _ _ n
 
 module _ (b : List ℕ) (k : Kind) (r : Reading) (e : k ≡ kindAt b 0) where
-  pub plan-other : OneOf (1 ∷ 2 ∷ 3 ∷ []) (tagOf the-type k) → r ≡ refused Malformed 0 → r ≡ readPlan b
-  unfolding readPlan
-  plan-other o g =
-      let next : Reading = unless (delayCause (linksAt b 0 .lmin) (linksAt b 0 .lmax)) 0 (readAfterLinks (linksAt b 0 .lmin) (linksAt b 0 .lmax) b) in
-      let end : Reading = refused Malformed 0 in
-      g ∙ sym (no-links k next end o) ∙ ap (λ (y : Kind). ifLinks y next end) e
+  pub plan-other : Other OfLinks k → r ≡ refused Malformed 0 → r ≡ readPlan b
+  plan-other o g = g ∙ sym (plan-at-other b (λ h. other-kind OfLinks k o (e ∙ h)))
 
   module _ (h : k ≡ OfLinks) (l : Links) (i : l ≡ linksAt b 0) (cause : Cause) (j : cause ≡ delayCause (l .lmin) (l .lmax)) (t : Bool) (m : t ≡ acceptedBy cause) where
     fits : cause ≡ delayCause (linksAt b 0 .lmin) (linksAt b 0 .lmax)
     fits = rw i at j
 
+    first : readPlan b ≡ unless cause 0 (readAfterLinks (linksAt b 0 .lmin) (linksAt b 0 .lmax) b)
+    first = rw (← fits) at (plan-at-links b (sym e ∙ h))
+
     pub plan-delays : not t ≡ true → r ≡ refused cause 0 → r ≡ readPlan b
-    unfolding readPlan ifLinks unless
-    plan-delays n g = rw (← e, h, ← fits, ← m, not-true t n) g
+    unfolding unless
+    plan-delays n g = rw (first, ← m, not-true t n) g
 
     pub plan-read : not t ≡ false → r ≡ readAfterLinks (l .lmin) (l .lmax) b → r ≡ readPlan b
-    unfolding readPlan ifLinks unless
-    plan-read n g = rw (← e, h, ← fits, ← m, not-false t n) (rw i at g)
+    unfolding unless
+    plan-read n g = rw (first, ← m, not-false t n) (rw i at g)

@@ -1,25 +1,24 @@
 -- What stands at a place of a plan, as its bytes and as what is read there; what is written and then read is the set that was written.
-use Prim.Native.Nat.{ℕ, zero, suc, _+_, _-_, _*_, _≤_, _<_}
+use Prim.Native.Nat.{ℕ, suc, _+_, _-_, _*_, _≤_, _<_}
 use mathlib.Core.Path.{_≡_, refl, sym, ap, _∙_}
 use mathlib.Core.List.{List, [], _∷_, _++_, append-nil, append-assoc}
-use native.Mathlib.Numerals.{add-one}
 use native.Mathlib.Nat.{add-zero}
 use native.Mathlib.Omega.{arith}
-use lib.ListN.{length, getD, take, drop, length-append, length-drop, take-append-drop}
-use lib.Seq.{take-at, drop-at, drop-cons, drop-drop, getD-append-seam, getD-drop, append-snoc, length-take-le}
+use lib.ListN.{length, getD, drop, length-append}
+use lib.Seq.{drop-at, getD-append-seam, append-snoc}
 use borrow.Author.Tests.{le-ltb, lt-leb}
 use Rattle.flows.specs.declared.Flow.{Flow}
 use Rattle.flows.specs.declared.Cause.{Cause}
 use Rattle.flows.specs.declared.Cause.the-variants.{Accepted}
 use Rattle.flows.specs.Lists.{mostFlows, noFlow, rowOf}
 use Rattle.flows.specs.Tests.{delayCause}
-use Rattle.flows.specs.WellFormed.{WellFormed, Each, each-more, Typed}
+use Rattle.flows.specs.WellFormed.{WellFormed, Each, each-none, each-more, Typed}
 use Rattle.row.specs.Rows.{lastNumber, Rising, rising-more}
 use Rattle.records.specs.declared.Links.{Links}
 use Rattle.records.specs.Kinds.{linksKind, linksBody, linksRecord, flowKind, flowBody, flowRecord, endKind}
 use Rattle.records.specs.Bodies.{Bytes, flowRead, linksWritten, flowWritten}
 use Rattle.reader.specs.declared.Kind.the-variants.{OfLinks, OfFlow, OfEnd}
-use Rattle.reader.specs.Places.{kindAt}
+use Rattle.reader.specs.Places.{kindAt, bodyAt}
 use Rattle.plan.specs.Reading.{flowAt, linksAt, listed, unless, recordCause, readFlows, readAfterLinks, readPlan}
 use Rattle.plan.specs.Writing.{linksBytes, flowBytes, flowsBytes, planBytes, planLength}
 use Rattle.plan.specs.Demands.{InForm, StartsLinks, StartsFlow, StartsEnd, After}
@@ -27,98 +26,62 @@ use Rattle.row.specs.Sets.{Readable}
 use Rattle.flows.proofs.Passed.{delays-passes, formed-passes}
 use Rattle.row.proofs.Arrays.{length-snoc}
 use Rattle.records.proofs.Writing.{length-flow}
+use Rattle.records.specs.Rows.{rowBytes}
+use Rattle.records.proofs.Rows.{row-long}
 use Rattle.records.proofs.RoundTrip.{read-typed, flow-back, links-back, flow-again, links-again}
-use Rattle.reader.proofs.Places.{kind-end, kind-links, kind-flow, at-some, Whole}
+use Rattle.reader.proofs.Places.{whole}
+use Rattle.reader.proofs.Records.{body-long, body-bytes, record-split, first-byte, record-here, record-body, record-next}
 use Rattle.plan.proofs.Steps.{nextAfter, falls-not, flows-at-end, flows-at-flow, plan-at-links}
 
 -- ---- a record at a place
-bytes-take : (n : ℕ) (b : List ℕ) → Bytes b → Bytes (take n b)
-bytes-take zero b u k = omega arith
-bytes-take (suc n) [] u k = omega arith
-bytes-take (suc n) (x ∷ b) u zero = u 0
-bytes-take (suc n) (x ∷ b) u (suc k) = bytes-take n b (λ j. u (suc j)) k
-
-bytes-drop : (n : ℕ) (b : List ℕ) → Bytes b → Bytes (drop n b)
-bytes-drop n b u k = rw (getD-drop n b k 0) (u (n + k))
-
--- a whole record and what is after it
-module _ (b : List ℕ) (at kind n : ℕ) (w : Whole b at kind n) where
-  record-split : drop at b ≡ kind ∷ (take n (drop (at + 1) b) ++ drop (at + (1 + n)) b)
-  record-split =
-      let h : at < length b = omega (arith, w .room) in
-      let z : at + 1 + n ≡ at + (1 + n) = omega arith in
-      let d : drop n (drop (at + 1) b) ≡ drop (at + (1 + n)) b = drop-drop n (at + 1) b ∙ ap (λ (k : ℕ). drop k b) z in
-      let t : drop (at + 1) b ≡ take n (drop (at + 1) b) ++ drop (at + (1 + n)) b =
-      sym (take-append-drop n (drop (at + 1) b)) ∙ ap (λ (l : List ℕ). take n (drop (at + 1) b) ++ l) d in
-      drop-cons b at 0 h ∙ ap (λ (k : ℕ). getD b at 0 ∷ drop k b) (sym (add-one at)) ∙ ap (λ (k : ℕ). k ∷ drop (at + 1) b) (w .byte) ∙
-      ap (λ (l : List ℕ). kind ∷ l) t
-
-  body-long : length (take n (drop (at + 1) b)) ≡ n
-  body-long = length-take-le n (drop (at + 1) b) (omega (arith, w .room, length-drop (at + 1) b))
-
-  body-bytes : Bytes b → Bytes (take n (drop (at + 1) b))
-  body-bytes u = bytes-take n (drop (at + 1) b) (bytes-drop (at + 1) b u)
-
 -- the rest of a plan from a place on begins with a record exactly if there is one of that kind at the place
 module _ (b : List ℕ) (at : ℕ) {rest : List ℕ} (e : drop at b ≡ rest) where
-  pub first-byte : (x : ℕ) (y : List ℕ) → rest ≡ x ∷ y → (getD b at 0 ≡ x) × (length b ≡ at + 1 + length y)
-  first-byte x y h =
-      let g : drop at b ≡ x ∷ y = e ∙ h in
-      (sym (rw (add-zero at) at (getD-drop at b 0 0)) ∙ ap (λ (l : List ℕ). getD l 0 0) g, omega (arith, length-drop at b, ap length g))
-
   pub end-here : StartsEnd rest → kindAt b at ≡ OfEnd
-  end-here s = let k = first-byte endKind (s .rest) (s .bytes) in sym (at-some b at OfEnd (omega (arith, k .1)) (kind-end _ _ (k .0)))
+  end-here s = record-here b at e OfEnd [] (s .rest) refl (s .bytes)
 
-  pub end-starts : Whole b at endKind 0 → StartsEnd rest
-  end-starts w = record { rest = drop (at + 1) b; bytes = sym e ∙ record-split b at endKind 0 w }
+  pub end-starts : kindAt b at ≡ OfEnd → StartsEnd rest
+  end-starts h = record { rest = drop (at + 1) b; bytes = sym e ∙ record-split b at OfEnd (whole b at OfEnd tt h) }
 
   module _ {f : Flow} (s : StartsFlow rest f) where
     long : length (flowWritten f) ≡ flowBody
     long = length-flow f (s .typed .nodes) (s .typed .costs)
 
-    behind : (n : ℕ) → drop (at + n) b ≡ drop n (flowBytes f ++ s .rest)
-    behind n = sym (drop-drop n at b) ∙ ap (drop n) (e ∙ s .bytes)
-
     flow-next : drop (at + flowRecord) b ≡ s .rest
-    flow-next = behind flowRecord ∙ drop-at (flowBytes f) (s .rest) flowRecord (ap suc long)
+    flow-next = record-next b at e OfFlow (flowWritten f) (s .rest) long (s .bytes)
 
     pub flow-here : kindAt b at ≡ OfFlow
-    flow-here =
-        let k = first-byte flowKind (flowWritten f ++ s .rest) (s .bytes) in
-        let l = length-append (flowWritten f) (s .rest) in
-        let r : flowBody ≤ length b - (at + 1) = omega (arith, k .1, long) in
-        sym (at-some b at OfFlow (omega (arith, k .1)) (kind-flow _ _ (λ q. omega (arith, k .0)) (λ q. omega (arith, k .0)) (k .0) r))
+    flow-here = record-here b at e OfFlow (flowWritten f) (s .rest) long (s .bytes)
 
     pub flow-same : flowAt b at ≡ f
-    flow-same = ap flowRead (ap (take flowBody) (behind 1) ∙ take-at (flowWritten f) (s .rest) flowBody long) ∙ flow-again f (s .typed)
+    flow-same = ap flowRead (record-body b at e OfFlow (flowWritten f) (s .rest) long (s .bytes)) ∙ flow-again f (s .typed)
 
-  pub flow-starts : Bytes b → Whole b at flowKind flowBody → StartsFlow rest (flowAt b at)
-  flow-starts u w =
-      let part = body-bytes b at flowKind flowBody w u in
-      let y : flowWritten (flowAt b at) ≡ take flowBody (drop (at + 1) b) = flow-back _ (body-long b at flowKind flowBody w) part in
+  pub flow-starts : Bytes b → kindAt b at ≡ OfFlow → StartsFlow rest (flowAt b at)
+  flow-starts u h =
+      let w = whole b at OfFlow tt h in
+      let part = body-bytes b at OfFlow w u in
+      let y : flowWritten (flowAt b at) ≡ bodyAt b at flowBody = flow-back _ (body-long b at OfFlow w) part in
       record {
         rest = drop (at + flowRecord) b;
-        typed = read-typed (take flowBody (drop (at + 1) b)) part;
-        bytes = sym e ∙ record-split b at flowKind flowBody w ∙ ap (λ (l : List ℕ). flowKind ∷ (l ++ drop (at + flowRecord) b)) (sym y);
+        typed = read-typed (bodyAt b at flowBody) part;
+        bytes = sym e ∙ record-split b at OfFlow w ∙ ap (λ (l : List ℕ). flowKind ∷ (l ++ drop (at + flowRecord) b)) (sym y);
       }
 
 module _ (b : List ℕ) where
-  pub links-starts : Bytes b → Whole b 0 linksKind linksBody → StartsLinks b (linksAt b 0 .lmin) (linksAt b 0 .lmax)
-  links-starts u w =
-      let part = body-bytes b 0 linksKind linksBody w u in
-      let y = links-back (take linksBody (drop 1 b)) (body-long b 0 linksKind linksBody w) part in
+  pub links-starts : Bytes b → kindAt b 0 ≡ OfLinks → StartsLinks b (linksAt b 0 .lmin) (linksAt b 0 .lmax)
+  links-starts u h =
+      let w = whole b 0 OfLinks tt h in
+      let part = body-bytes b 0 OfLinks w u in
+      let y = links-back (bodyAt b 0 linksBody) (body-long b 0 OfLinks w) part in
       record {
         rest = drop linksRecord b;
         least = omega (arith, part 0, part 1);
         most = omega (arith, part 2, part 3);
-        bytes = record-split b 0 linksKind linksBody w ∙ ap (λ (l : List ℕ). linksKind ∷ (l ++ drop linksRecord b)) (sym y);
+        bytes = record-split b 0 OfLinks w ∙ ap (λ (l : List ℕ). linksKind ∷ (l ++ drop linksRecord b)) (sym y);
       }
 
   module _ (lmin lmax : ℕ) (s : StartsLinks b lmin lmax) where
     pub links-here : kindAt b 0 ≡ OfLinks
-    links-here =
-        let k = first-byte b 0 refl linksKind (linksWritten lmin lmax ++ s .rest) (s .bytes) in
-        sym (at-some b 0 OfLinks (omega (arith, k .1)) (kind-links _ _ (λ q. omega (arith, k .0)) (k .0) (omega (arith, k .1))))
+    links-here = record-here b 0 refl OfLinks (linksWritten lmin lmax) (s .rest) refl (s .bytes)
 
     links-same : linksAt b 0 ≡ record { lmin = lmin; lmax = lmax }
     links-same = rw (s .bytes) (links-again lmin lmax (s .least) (s .most))
@@ -151,7 +114,7 @@ read-flows : (gs fs : List Flow) (b post : List ℕ) (at lmin lmax : ℕ) → dr
     Rising (lastNumber fs) gs → length fs + length gs ≤ mostFlows → Each WellFormed gs → Each Typed gs →
     readFlows (mostFlows - length fs) lmin lmax fs b at ≡
     readFlows (mostFlows - length (fs ++ gs)) lmin lmax (fs ++ gs) b (at + length (flowsBytes gs))
-unfolding flowsBytes
+unfolding rowBytes
 read-flows [] fs b post at lmin lmax s r h c t = rw (append-nil fs, add-zero)
 read-flows (g ∷ gs) fs b post at lmin lmax s (rising-more j r) h (each-more e c) (each-more u t) =
     let z : StartsFlow ((flowBytes g ++ flowsBytes gs) ++ post) g =
@@ -201,13 +164,12 @@ pub write-read : (lmin lmax : ℕ) (fs : List Flow) → Readable lmin lmax fs �
 write-read lmin lmax fs s = form-read (planBytes lmin lmax fs) (record { lmin = lmin; lmax = lmax; flows = fs; readable = s; bytes = refl })
 
 -- ---- the length of a plan
+long-each : (fs : List Flow) → Each Typed fs → Each (λ f. length (flowBytes f) ≡ flowRecord) fs
+long-each [] e = each-none
+long-each (f ∷ fs) (each-more t e) = each-more (ap suc (length-flow f (t .nodes) (t .costs))) (long-each fs e)
+
 pub flows-long : (fs : List Flow) → Each Typed fs → length (flowsBytes fs) ≡ flowRecord * length fs
-unfolding flowsBytes
-flows-long [] e = refl
-flows-long (f ∷ fs) (each-more t e) =
-    let n = flows-long fs e in
-    let l = length-flow f (t .nodes) (t .costs) in
-    omega (arith, length-append (flowBytes f) (flowsBytes fs))
+flows-long fs e = row-long flowBytes linksRecord flowRecord fs (long-each fs e)
 
 -- the length that RULES, writing, says
 pub plan-long : (lmin lmax : ℕ) (fs : List Flow) → Each Typed fs → length (planBytes lmin lmax fs) ≡ 6 + 34 * length fs

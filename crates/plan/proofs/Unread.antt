@@ -19,6 +19,7 @@ use Rattle.flows.specs.WellFormed.{Exactly, WellFormed, OfDelays, delays-fit, d
 use Rattle.row.specs.Rows.{lastNumber, Rising, rising-none, rising-more}
 use Rattle.records.specs.Kinds.{linksRecord, flowRecord, endKind}
 use Rattle.records.specs.Bodies.{Bytes}
+use Rattle.records.specs.Rows.{rowBytes}
 use Rattle.reader.specs.declared.Kind.the-variants.{OfLinks, OfFlow, OfEnd}
 use Rattle.reader.specs.Places.{kindAt}
 use Rattle.plan.specs.declared.Reading.{Reading}
@@ -32,10 +33,11 @@ use Rattle.flows.proofs.Passed.{delays-exact, flow-exact, formed, formed-passes
 use Rattle.row.proofs.Arrays.{length-snoc}
 use Rattle.row.proofs.Valid.{readable-none}
 use Rattle.records.proofs.Writing.{length-flow}
-use Rattle.reader.proofs.Places.{found, impossible}
-use Rattle.plan.proofs.Steps.{falls-zero, falls-not, falls-order, flows-at-none, flows-at-links, flows-at-end, flows-at-flow, plan-at-flow, plan-at-end, plan-at-none}
-use Rattle.plan.proofs.Puts.{flows-snoc}
-use Rattle.plan.proofs.Trips.{last-snoc, first-byte, end-here, end-starts, flow-here, flow-same, flow-starts, links-starts, links-here, plan-starts, after-rest, read-after, form-read, flows-long}
+use Rattle.reader.proofs.Places.{is-kind, impossible}
+use Rattle.reader.proofs.Records.{first-byte}
+use Rattle.plan.proofs.Steps.{falls-zero, falls-not, falls-order, flows-at-other, flows-at-end, flows-at-flow, plan-at-other}
+use Rattle.records.proofs.Rows.{row-snoc}
+use Rattle.plan.proofs.Trips.{last-snoc, end-here, end-starts, flow-here, flow-same, flow-starts, links-starts, links-here, plan-starts, after-rest, read-after, form-read, flows-long}
 
 -- ---- a flow's record: accepted, or refused as the words say
 record Taken (fs : List Flow) (f : Flow) : Type 0 where
@@ -93,7 +95,7 @@ module _ {b : List ℕ} {fs : List Flow} {at : ℕ} {rest : List ℕ} (a : After
   after-more {f} s k =
       let x = linksBytes (a .lmin) (a .lmax) in
       let m : before ++ flowBytes f ≡ x ++ flowsBytes (fs ++ (f ∷ [])) =
-      append-assoc x (flowsBytes fs) (flowBytes f) ∙ ap (λ (l : List ℕ). x ++ l) (sym (flows-snoc fs f)) in
+      append-assoc x (flowsBytes fs) (flowBytes f) ∙ ap (λ (l : List ℕ). x ++ l) (sym (row-snoc flowBytes fs f)) in
       let p : at + flowRecord ≡ length (before ++ flowBytes f) =
       omega (arith, a .place-is, length-append before (flowBytes f), length-flow f (s .typed .nodes) (s .typed .costs)) in
       record {
@@ -148,23 +150,23 @@ module _ (b : List ℕ) (u : Bytes b) where
     ended (x ∷ y) e = unread Malformed (at + 1) (after-end fs at x y (subst (After b fs at) e a))
 
     record-decided : ((f : Flow) (s : StartsFlow rest f) → Taken fs f → Decided b) → Decided b
-    record-decided next =
-        found b at (kindAt b at) refl
-        (λ g. other (λ h. impossible (cc)) (λ h. impossible (cc)))
-        (λ w g. let s = end-starts b at (after-rest a) w in ended (s .rest) (s .bytes))
-        (λ w g. other (λ h. impossible (cc)) (λ h. impossible (cc)))
-        (λ w g. let s = flow-starts b at (after-rest a) u w in go s (of-record fs (flowAt b at) (s .typed)))
+    record-decided next = go (is-kind (kindAt b at) OfFlow) (is-kind (kindAt b at) OfEnd)
       where
-        go : StartsFlow rest (flowAt b at) → Taken fs (flowAt b at) ⊎ OfRecord fs (flowAt b at) (recordCause fs (flowAt b at)) → Decided b
-        go s (inl k) = next (flowAt b at) s k
-        go s (inr o) = unread _ at (of-flow fs at rest (flowAt b at) _ a s o)
+        tested : StartsFlow rest (flowAt b at) → Taken fs (flowAt b at) ⊎ OfRecord fs (flowAt b at) (recordCause fs (flowAt b at)) → Decided b
+        tested s (inl k) = next (flowAt b at) s k
+        tested s (inr o) = unread _ at (of-flow fs at rest (flowAt b at) _ a s o)
+
+        go : (kindAt b at ≡ OfFlow) ⊎ (kindAt b at ≡ OfFlow → ⊥) → (kindAt b at ≡ OfEnd) ⊎ (kindAt b at ≡ OfEnd → ⊥) → Decided b
+        go (inl h) o = let s = flow-starts b at (after-rest a) u h in tested s (of-record fs (flowAt b at) (s .typed))
+        go (inr n) (inl h) = let s = end-starts b at (after-rest a) h in ended (s .rest) (s .bytes)
+        go (inr n) (inr m) = other m n
 
   after-decided : (room : ℕ) {fs : List Flow} {at : ℕ} {rest : List ℕ} → room + length fs ≡ mostFlows → After b fs at rest → Decided b
   after-decided zero h a = record-decided a (λ f s k. absurd (omega (arith, k .room)))
   after-decided (suc room) {fs} h a = record-decided a (λ f s k. after-decided room (omega (arith, length-snoc fs f)) (after-more a s k))
 
   links-decided : (lmin lmax : ℕ) → StartsLinks b lmin lmax → Decided b
-  unfolding flowsBytes
+  unfolding rowBytes
   links-decided lmin lmax s = go (delayCause lmin lmax) refl (delays-exact lmin lmax (delayCause lmin lmax) .0 refl)
     where
       go : (c : Cause) → delayCause lmin lmax ≡ c → OfDelays lmin lmax c → Decided b
@@ -179,28 +181,20 @@ module _ (b : List ℕ) (u : Bytes b) where
           })
 
   decided : Decided b
-  decided =
-      found b 0 (kindAt b 0) refl
-      (λ g. no-first (λ h. impossible (cc)))
-      (λ w g. no-first (λ h. impossible (cc)))
-      (λ w g. links-decided _ _ (links-starts b u w))
-      (λ w g. no-first (λ h. impossible (cc)))
+  decided = go (is-kind (kindAt b 0) OfLinks)
     where
-      no-first : (kindAt b 0 ≡ OfLinks → ⊥) → Decided b
-      no-first n = unread Malformed 0 (no-links (λ l m s. n (links-here b l m s)))
+      go : (kindAt b 0 ≡ OfLinks) ⊎ (kindAt b 0 ≡ OfLinks → ⊥) → Decided b
+      go (inl h) = links-decided _ _ (links-starts b u h)
+      go (inr n) = unread Malformed 0 (no-links (λ l m s. n (links-here b l m s)))
 
   -- ---- what the words say is given
   gives : (c : Cause) (place : ℕ) → Unread b c place → readPlan b ≡ refused c place
   unfolding unless
-  gives c place (no-links n) =
-      found b 0 (kindAt b 0) refl (plan-at-none b) (λ w g. plan-at-end b g) (λ w g. absurd (n _ _ (links-starts b u w))) (λ w g. plan-at-flow b g)
+  gives c place (no-links n) = plan-at-other b (λ h. n _ _ (links-starts b u h))
   gives c place (unfit-links lmin lmax s n) =
       plan-starts b lmin lmax s ∙ ap (λ (d : Cause). unless d 0 (readAfterLinks lmin lmax b)) (delays-exact lmin lmax Delays .1 (delays-unfit n))
   gives c place (no-record fs at rest a n m) =
-      read-after a ∙
-      found b at (kindAt b at) refl (flows-at-none _ _ _ fs b at) (λ w g. absurd (m (end-starts b at (after-rest a) w)))
-      (λ w g. flows-at-links _ _ _ fs b at g)
-      (λ w g. absurd (n _ (flow-starts b at (after-rest a) u w)))
+      read-after a ∙ flows-at-other _ _ _ fs b at (λ h. n _ (flow-starts b at (after-rest a) u h)) (λ h. m (end-starts b at (after-rest a) h))
   gives c place (of-flow fs at rest f d a s o) =
       let q = record-only fs f (s .typed) d o in
       let e : recordCause fs (flowAt b at) ≡ d = ap (recordCause fs) (flow-same b at (after-rest a) s) ∙ q .0 in

@@ -2,7 +2,7 @@
 use Prim.Native.Nat.{ℕ, zero, suc, _+_}
 use mathlib.Core.Bool.{Bool, cond, not, _&&_}
 use mathlib.Core.List.{List, [], _∷_, _++_}
-use lib.ListN.{length, take, drop}
+use lib.ListN.{length}
 use lib.Dec.{leb, ltb, eqb}
 use Rattle.flows.specs.declared.Flow.{Flow}
 use Rattle.flows.specs.declared.Row.{Row}
@@ -15,17 +15,11 @@ use Rattle.row.specs.Rows.{lastNumber}
 use Rattle.records.specs.declared.Links.{Links}
 use Rattle.records.specs.Kinds.{linksBody, linksRecord, flowBody, flowRecord}
 use Rattle.records.specs.Bodies.{linksRead, flowRead}
-use Rattle.reader.specs.declared.Kind.{Kind}
-use Rattle.reader.specs.declared.Kind.the-variants.{OfLinks, OfFlow, OfEnd, OfNone}
-use Rattle.reader.specs.Places.{kindAt}
+use Rattle.reader.specs.declared.Kind.the-variants.{OfLinks, OfFlow, OfEnd}
+use Rattle.reader.specs.Places.{kindAt, bodyAt, ifKind}
 use Rattle.plan.specs.declared.FlowSet.{FlowSet}
 use Rattle.plan.specs.declared.Reading.{Reading}
-use Rattle.flows.specs.declared.Outcome.{Outcome}
 use Rattle.flows.specs.declared.Outcome.the-variants.{Read, Refused}
-
--- the body of the record at a place: the part of the plan after its kind byte
-abbrev pub bodyAt : List ℕ → ℕ → ℕ → List ℕ
-bodyAt b at n = take n (drop (at + 1) b)
 
 abbrev pub flowAt : List ℕ → ℕ → Flow
 flowAt b at = flowRead (bodyAt b at flowBody)
@@ -60,26 +54,14 @@ recordCause fs f =
     (firstCause (flowCause f) (cond (leb mostFlows (length fs)) Full Accepted))
 
 -- 7F, then nothing; a further byte is refused at its place, any other record at its own
-unfoldable pub atEnd : Kind → ℕ → ℕ → Row → List ℕ → ℕ → Reading
-atEnd OfEnd lmin lmax row b at =
-    cond (ltb (at + 1) (length b)) (refused Malformed (at + 1)) (listed lmin lmax row)
-atEnd OfLinks lmin lmax row b at = refused Malformed at
-atEnd OfFlow lmin lmax row b at = refused Malformed at
-atEnd OfNone lmin lmax row b at = refused Malformed at
-
-abbrev pub readEnd : ℕ → ℕ → Row → List ℕ → ℕ → Reading
-readEnd lmin lmax row b at = atEnd (kindAt b at) lmin lmax row b at
+unfoldable pub readEnd : ℕ → ℕ → Row → List ℕ → ℕ → Reading
+readEnd lmin lmax row b at =
+    ifKind (kindAt b at) OfEnd (cond (ltb (at + 1) (length b)) (refused Malformed (at + 1)) (listed lmin lmax row)) (refused Malformed at)
 
 -- a flow's record, or any other
-unfoldable pub ifFlow : Kind → Reading → Reading → Reading
-ifFlow OfFlow flow other = flow
-ifFlow OfLinks flow other = other
-ifFlow OfEnd flow other = other
-ifFlow OfNone flow other = other
-
 abbrev readRecord : ℕ → ℕ → List Flow → List ℕ → ℕ → Reading → Reading
 readRecord lmin lmax fs b at next =
-    ifFlow (kindAt b at) (unless (recordCause fs (flowAt b at)) at next) (readEnd lmin lmax (rowOf fs) b at)
+    ifKind (kindAt b at) OfFlow (unless (recordCause fs (flowAt b at)) at next) (readEnd lmin lmax (rowOf fs) b at)
 
 -- the records from a place on, after the flows fs, with room for so many more; where there is none, recordCause accepts no flow
 unfoldable pub readFlows : ℕ → ℕ → ℕ → List Flow → List ℕ → ℕ → Reading
@@ -90,15 +72,9 @@ readFlows (suc room) lmin lmax fs b at =
 abbrev pub readAfterLinks : ℕ → ℕ → List ℕ → Reading
 readAfterLinks lmin lmax b = readFlows mostFlows lmin lmax [] b linksRecord
 
-unfoldable pub ifLinks : Kind → Reading → Reading → Reading
-ifLinks OfLinks links other = links
-ifLinks OfFlow links other = other
-ifLinks OfEnd links other = other
-ifLinks OfNone links other = other
-
 -- the first record is 01; readFlows has the order of the others. RULES, reading
 unfoldable pub readPlan : List ℕ → Reading
 readPlan b =
-    ifLinks (kindAt b 0)
+    ifKind (kindAt b 0) OfLinks
     (unless (delayCause (linksAt b 0 .lmin) (linksAt b 0 .lmax)) 0 (readAfterLinks (linksAt b 0 .lmin) (linksAt b 0 .lmax) b))
     (refused Malformed 0)

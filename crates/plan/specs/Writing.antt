@@ -1,18 +1,14 @@
 -- Writing a plan: the bytes, the answer, and what the buffer then holds.
 use Prim.Native.Nat.{ℕ, _+_, _*_}
-use mathlib.Core.Bool.{cond}
 use mathlib.Core.List.{List, [], _∷_, _++_}
-use lib.ListN.{length, drop}
-use lib.Dec.{ltb}
+use lib.ListN.{length}
 use Rattle.flows.specs.declared.Flow.{Flow}
-use Rattle.flows.specs.declared.Cause.the-variants.{ShortBuffer}
-use Rattle.flows.specs.Refusals.{refusalOf}
 use Rattle.flows.specs.Lists.{held}
 use Rattle.records.specs.Kinds.{linksKind, linksRecord, flowKind, flowRecord, endKind}
 use Rattle.records.specs.Bodies.{linksWritten, flowWritten}
+use Rattle.records.specs.Rows.{rowBytes, sizeWritten, bufferWith}
 use Rattle.plan.specs.declared.FlowSet.{FlowSet}
 use Rattle.flows.specs.declared.Written.{Written}
-use Rattle.flows.specs.declared.Written.the-variants.{Length, Refused}
 
 abbrev pub linksBytes : ℕ → ℕ → List ℕ
 linksBytes lmin lmax = linksKind ∷ linksWritten lmin lmax
@@ -20,9 +16,8 @@ linksBytes lmin lmax = linksKind ∷ linksWritten lmin lmax
 abbrev pub flowBytes : Flow → List ℕ
 flowBytes f = flowKind ∷ flowWritten f
 
-unfoldable pub flowsBytes : List Flow → List ℕ
-flowsBytes [] = []
-flowsBytes (f ∷ fs) = flowBytes f ++ flowsBytes fs
+abbrev pub flowsBytes : List Flow → List ℕ
+flowsBytes fs = rowBytes flowBytes fs
 
 -- 01, then each 02, then 7F
 unfoldable pub planBytes : ℕ → ℕ → List Flow → List ℕ
@@ -37,10 +32,9 @@ abbrev pub planLength : ℕ → ℕ
 planLength n = linksRecord + flowRecord * n + 1
 
 -- 13, if the plan does not fit. RULES, writing
-unfoldable pub writtenInto : ℕ → ℕ → Written
-writtenInto space n = cond (ltb space (planLength n)) (Refused (refusalOf ShortBuffer 0)) (Length (planLength n))
+abbrev pub writtenInto : ℕ → ℕ → Written
+writtenInto space n = sizeWritten space (planLength n)
 
 -- the plan, and behind it what was there; where it does not fit, all that was there. RULES, writing
-unfoldable pub bufferAfter : ℕ → ℕ → List Flow → List ℕ → List ℕ
-bufferAfter lmin lmax fs old =
-    cond (ltb (length old) (planLength (length fs))) old (planBytes lmin lmax fs ++ drop (planLength (length fs)) old)
+abbrev pub bufferAfter : ℕ → ℕ → List Flow → List ℕ → List ℕ
+bufferAfter lmin lmax fs old = bufferWith (planBytes lmin lmax fs) (planLength (length fs)) old

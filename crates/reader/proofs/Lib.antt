@@ -1,2 +1,3 @@
 -- The laws of `reader`.
 pub mod Places
+pub mod Records

@@ -6,7 +6,7 @@ use mathlib.Core.List.{List, [], _∷_}
 use mathlib.Core.Logic.{_⊎_, inl, inr}
 use native.Mathlib.Omega.{arith}
 use lib.ListN.{length, getD}
-use lib.Dec.{leb, ltb, eqb}
+use lib.Dec.{T, leb, ltb, eqb}
 use borrow.Author.Tests.{eq-eqb, ne-eqb, lt-ltb, le-ltb, le-leb, lt-leb, eqb-true, eqb-false, ltb-false, leb-false}
 use types.Run.{OneOf, miss}
 use denote.Enum.Declared.{tagOf}
@@ -105,15 +105,23 @@ other-kind OfLine k o e = miss (0 ∷ 1 ∷ 2 ∷ 3 ∷ 5 ∷ 6 ∷ []) 4 tt (su
 other-kind OfClose k o e = miss (0 ∷ 1 ∷ 2 ∷ 3 ∷ 4 ∷ 6 ∷ []) 5 tt (subst (Other OfClose) e o)
 other-kind OfNone k o e = miss (0 ∷ 1 ∷ 2 ∷ 3 ∷ 4 ∷ 5 ∷ []) 6 tt (subst (Other OfNone) e o)
 
+-- what follows from the kind that a caller saw
+module _ {A : Type 0} (b : List ℕ) (at : ℕ) (w : Kind) (x y : A) (k : Kind) (e : k ≡ kindAt b at) where
+  pub seen-here : k ≡ w → ifKind (kindAt b at) w x y ≡ x
+  seen-here h = if-here (kindAt b at) w x y (sym e ∙ h)
+
+  pub seen-other : Other w k → ifKind (kindAt b at) w x y ≡ y
+  seen-other o = if-other (kindAt b at) w x y (λ h. other-kind w k o (e ∙ h))
+
 -- ---- a kind that was found: its byte and its whole body are there
 pub record Whole (b : List ℕ) (at : ℕ) (k : Kind) : Type 0 where
   pub byte : getD b at 0 ≡ byteOf k
   pub room : at + 1 + bodyOf k ≤ length b
 
 module _ (b : List ℕ) (at : ℕ) (k : Kind) where
-  pub whole : k ≡ kindAt b at → (k ≡ OfNone → ⊥) → Whole b at k
+  seen-whole : kindAt b at ≡ k → (k ≡ OfNone → ⊥) → Whole b at k
   unfolding kindAt kindOf
-  whole e n = go (leb (length b) at) (ltb left (bodyOf (kindNamed x))) refl refl e
+  seen-whole e n = go (leb (length b) at) (ltb left (bodyOf (kindNamed x))) refl refl (sym e)
     where
       x : ℕ
       x = getD b at 0
@@ -128,6 +136,10 @@ module _ (b : List ℕ) (at : ℕ) (k : Kind) where
           let h = leb-false (length b) at i in
           let r : bodyOf k ≤ left = rw g (ltb-false left (bodyOf (kindNamed x)) j) in
           record { byte = sym (byte-named x (λ m. n (g ∙ m))) ∙ ap byteOf (sym g); room = omega arith }
+
+  -- for a kind that has a byte, which it is told by computing
+  pub whole : T (ltb 0 (byteOf k)) → kindAt b at ≡ k → Whole b at k
+  whole t e = seen-whole e (λ g. subst (λ (m : Kind). T (ltb 0 (byteOf m))) g t)
 
   pub found : Whole b at k → kindAt b at ≡ k
   found w =

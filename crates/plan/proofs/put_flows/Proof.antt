@@ -1,20 +1,17 @@
 -- `plan::put_flows` meets its contract.
-use Prim.Native.Nat.{_≤_, _-_, _+_, _*_}
+use Prim.Native.Nat.{_≤_, _-_}
 use mathlib.Core.Path.{_≡_, _∙_}
-use mathlib.Core.List.{_++_}
 use native.Mathlib.Omega.{arith}
-use lib.ListN.{length, take, drop}
+use lib.ListN.{length, take}
 use borrow.Author.Needs.{needs}
 use Rattle.flows.specs.Lists.{mostFlows}
-use Rattle.records.specs.Kinds.{linksRecord, flowRecord}
-use Rattle.plan.specs.Writing.{flowsBytes}
 use Rattle.flows.proofs.Arrays.{length-of-map}
-use Rattle.plan.proofs.Puts.{puts-none, length-none, length-more, puts-more, puts-end}
+use Rattle.plan.proofs.Puts.{Flows, puts-none, puts-more, puts-end}
 use Rattle.plan.proofs.put_flows.Statement.{statement}
 use Rattle.plan.proofs.put_flows.Tie as tie
 
 abbrev Inv-loop : tie.InvT-loop
-Inv-loop buffer₀ row n k₀ buffer k = (k ≤ n) × (length (flowsBytes (take k (row .flows))) ≡ flowRecord * k) × (buffer ≡ (take linksRecord buffer₀ ++ flowsBytes (take k (row .flows))) ++ drop (linksRecord + flowRecord * k) buffer₀) × (length buffer ≡ length buffer₀)
+Inv-loop buffer₀ row n k₀ buffer k = (k ≤ n) × Flows buffer₀ (take k (row .flows)) buffer × (length buffer ≡ length buffer₀)
 
 abbrev μ-loop : tie.MeasureT-loop
 μ-loop buffer₀ row n k₀ buffer k = n - k
@@ -23,7 +20,7 @@ size-requires : tie.Need-size-requires Inv-loop μ-loop
 size-requires c κs = search needs
 
 loop-holds : tie.Need-loop-holds Inv-loop μ-loop
-loop-holds c = (search needs, search length-none, search puts-none, search needs)
+loop-holds c = (search needs, search puts-none, search needs)
 
 mul-f : tie.Need-mul-f Inv-loop μ-loop
 mul-f c = search needs
@@ -47,13 +44,13 @@ loop-less : tie.Need-loop-less Inv-loop μ-loop
 loop-less c = search needs
 
 loop-again : tie.Need-loop-again Inv-loop μ-loop
-loop-again c = let p = c .before .before in let a = p .before .before .before .before in let s = a .before .before in let l : length (s .before .args .t2 .flows) ≡ mostFlows = search (length-of-map, s .before .good) in (search needs, length-more _ _ _ (omega arith) (a .loop .inv .1) (p .put-flow .ensures .0), puts-more _ _ _ (omega arith) (a .loop .inv .1) (p .put-flow .ensures .0) (s .before .args .buffer .now) _ _ (omega arith) (a .loop .inv .2) (p .put-flow .ensures .1), c .before .buffer .given ∙ a .loop .inv .3)
+loop-again c = let p = c .before .before in let a = p .before .before .before .before in let s = a .before .before in let l : length (s .before .args .t2 .flows) ≡ mostFlows = search (length-of-map, s .before .good) in (search needs, puts-more (s .before .args .buffer .now) (a .loop .buffer) _ (s .before .args .t2 .flows) (a .loop .k) _ (omega arith) (omega arith) (a .loop .inv .1) (p .put-flow .ensures .0) (p .put-flow .ensures .1), c .before .buffer .given ∙ a .loop .inv .2)
 
 same-length : tie.Need-same-length Inv-loop μ-loop
 same-length c = search needs
 
 returns : tie.Need-returns Inv-loop μ-loop
-returns c = let a = c .before .loop in let s = c .before .before in puts-end (s .before .before .args .t2) (s .before .before .args .buffer .now) (a .buffer) _ (a .k) (s .size .ensures .0) (omega arith) (a .inv .1) (a .inv .2)
+returns c = let a = c .before .loop in let s = c .before .before in puts-end (s .before .before .args .t2) (s .before .before .args .buffer .now) (a .buffer) _ (a .k) (s .size .ensures .0) (omega arith) (a .inv .1)
 
 pub put-flows-spec : {M : Type 1} → statement M
 put-flows-spec =

@@ -1,7 +1,9 @@
 -- `plan::read` meets its contract.
+use mathlib.Core.Path.{sym, _∙_}
 use native.Mathlib.Omega.{arith}
 use borrow.Author.Needs.{needs}
-use Rattle.reader.proofs.Places.{whole-links}
+use Rattle.reader.specs.declared.Kind.the-variants.{OfLinks}
+use Rattle.reader.proofs.Places.{whole}
 use Rattle.plan.proofs.Steps.{plan-other, plan-delays, plan-read}
 use Rattle.plan.proofs.Promises.{read-promise}
 use Rattle.plan.proofs.read.Statement.{statement}
@@ -26,7 +28,7 @@ part-read-links-start : tie.Need-part-read-links-start
 part-read-links-start c = search needs
 
 part-read-links-end : tie.Need-part-read-links-end
-part-read-links-end c = omega (arith, whole-links _ _ _ (c .before .before .seen .ensures) (c .enum-told .given .1))
+part-read-links-end c = omega (arith, whole _ _ OfLinks tt (sym (c .before .before .seen .ensures) ∙ c .enum-told .given .1))
 
 read-links-requires : tie.Need-read-links-requires
 read-links-requires c κs = search needs

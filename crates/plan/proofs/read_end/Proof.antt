@@ -1,7 +1,9 @@
 -- `plan::read_end` meets its contract.
+use mathlib.Core.Path.{sym, _∙_}
 use native.Mathlib.Omega.{arith}
 use borrow.Author.Needs.{needs}
-use Rattle.reader.proofs.Places.{whole-end}
+use Rattle.reader.specs.declared.Kind.the-variants.{OfEnd}
+use Rattle.reader.proofs.Places.{whole}
 use Rattle.plan.proofs.Steps.{end-other, end-more, end-last}
 use Rattle.plan.proofs.read_end.Statement.{statement}
 use Rattle.plan.proofs.read_end.Tie as tie
@@ -19,7 +21,7 @@ returns : tie.Need-returns
 returns c = search end-other
 
 add-if1 : tie.Need-add-if1
-add-if1 c = omega (arith, whole-end _ _ _ (c .before .before .seen .ensures) (c .enum-told .given .1))
+add-if1 c = omega (arith, whole _ _ OfEnd tt (sym (c .before .before .seen .ensures) ∙ c .enum-told .given .1))
 
 add-refuse : tie.Need-add-refuse
 add-refuse c = search needs

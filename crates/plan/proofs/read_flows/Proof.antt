@@ -1,12 +1,13 @@
 -- `plan::read_flows` meets its contract.
 use Prim.Native.Nat.{_-_}
-use mathlib.Core.Path.{_≡_}
+use mathlib.Core.Path.{_≡_, sym, _∙_}
 use native.Mathlib.Omega.{arith}
 use lib.ListN.{length}
 use borrow.Author.Needs.{needs}
 use Rattle.flows.specs.Lists.{mostFlows, held, rowOf}
 use Rattle.plan.specs.Reading.{readFlows, readAfterLinks}
-use Rattle.reader.proofs.Places.{whole-flow}
+use Rattle.reader.specs.declared.Kind.the-variants.{OfFlow}
+use Rattle.reader.proofs.Places.{whole}
 use Rattle.plan.proofs.Steps.{flows-start, start-made, flows-other, flows-none, flows-refused, flows-more, flows-made}
 use Rattle.plan.proofs.read_flows.Statement.{statement}
 use Rattle.plan.proofs.read_flows.Tie as tie
@@ -36,7 +37,7 @@ returns : tie.Need-returns Inv-loop μ-loop
 returns c = search flows-other
 
 flow-at-requires : tie.Need-flow-at-requires Inv-loop μ-loop
-flow-at-requires c κs = omega (arith, whole-flow _ _ _ (c .before .before .seen .ensures) (c .enum-told .given .1))
+flow-at-requires c κs = omega (arith, whole _ _ OfFlow tt (sym (c .before .before .seen .ensures) ∙ c .enum-told .given .1))
 
 record-cause-requires : tie.Need-record-cause-requires Inv-loop μ-loop
 record-cause-requires c κs = search needs
