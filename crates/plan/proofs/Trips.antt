@@ -4,8 +4,8 @@ use mathlib.Core.Path.{_≡_, refl, sym, ap, _∙_}
 use mathlib.Core.List.{List, [], _∷_, _++_, append-nil, append-assoc}
 use native.Mathlib.Nat.{add-zero}
 use native.Mathlib.Omega.{arith}
-use lib.ListN.{length, getD, drop, length-append}
-use lib.Seq.{drop-at, getD-append-seam, append-snoc}
+use lib.ListN.{length, drop, length-append}
+use lib.Seq.{drop-at, append-snoc}
 use borrow.Author.Tests.{le-ltb, lt-leb}
 use Rattle.flows.specs.declared.Flow.{Flow}
 use Rattle.flows.specs.declared.Cause.{Cause}
@@ -25,6 +25,7 @@ use Rattle.plan.specs.Demands.{InForm, StartsLinks, StartsFlow, StartsEn
 use Rattle.row.specs.Sets.{Readable}
 use Rattle.flows.proofs.Passed.{delays-passes, formed-passes}
 use Rattle.row.proofs.Arrays.{length-snoc}
+use Rattle.row.proofs.Longer.{last-snoc}
 use Rattle.records.proofs.Writing.{length-flow}
 use Rattle.records.specs.Rows.{rowBytes}
 use Rattle.records.proofs.Rows.{row-long}
@@ -92,11 +93,9 @@ module _ (b : List ℕ) where
         ap (λ (x : Links). unless (delayCause (x .lmin) (x .lmax)) 0 (readAfterLinks (x .lmin) (x .lmax) b)) links-same
 
 -- ---- written, then read
-pub last-snoc : (fs : List Flow) (f : Flow) → lastNumber (fs ++ (f ∷ [])) ≡ f .number
+pub number-last : (fs : List Flow) (f : Flow) → lastNumber (fs ++ (f ∷ [])) ≡ f .number
 unfolding lastNumber
-last-snoc fs f =
-    let n : length (fs ++ (f ∷ [])) - 1 ≡ length fs = omega (arith, length-snoc fs f) in
-    ap (λ (i : ℕ). getD (fs ++ (f ∷ [])) i noFlow .number) n ∙ ap (λ (g : Flow). g .number) (getD-append-seam fs f [] noFlow)
+number-last fs f = ap (λ (g : Flow). g .number) (last-snoc fs f noFlow)
 
 accepted-record : (fs : List Flow) (f : Flow) → lastNumber fs < f .number → length fs < mostFlows → Typed f → WellFormed f → recordCause fs f ≡ Accepted
 unfolding recordCause
@@ -123,7 +122,7 @@ read-flows (g ∷ gs) fs b post at lmin lmax s (rising-more j r) h (each-more e 
     let p : at + flowRecord + length (flowsBytes gs) ≡ at + length (flowBytes g ++ flowsBytes gs) =
     omega (arith, length-append (flowBytes g) (flowsBytes gs), length-flow g (u .nodes) (u .costs)) in
     let l : length (fs ++ (g ∷ [])) + length gs ≤ mostFlows = omega (arith, length-snoc fs g) in
-    let v : Rising (lastNumber (fs ++ (g ∷ []))) gs = rw (last-snoc fs g) r in
+    let v : Rising (lastNumber (fs ++ (g ∷ []))) gs = rw (number-last fs g) r in
     let ih = read-flows gs (fs ++ (g ∷ [])) b post (at + flowRecord) lmin lmax (flow-next b at s z) v l c t in
     goes-on _ _ lmin lmax fs b at g (flow-here b at s z) (flow-same b at s z) (accepted-record fs g j (omega arith) u e) more ∙
     rw (append-snoc fs g gs, p) at ih

@@ -2,11 +2,10 @@
 use Prim.Native.Nat.{ℕ, zero, suc, _+_, _≤_, _<_}
 use mathlib.Core.Path.{_≡_, refl, sym, ap, _∙_, subst}
 use mathlib.Core.Bool.{Bool, true, false, cond, not, _&&_}
-use mathlib.Core.List.{List, [], _∷_, _++_, append-nil, append-assoc}
+use mathlib.Core.List.{List, [], _∷_, _++_, append-assoc}
 use mathlib.Core.Logic.{_⊎_, inl, inr}
 use native.Mathlib.Omega.{arith}
 use lib.ListN.{length, length-append}
-use lib.Seq.{append-snoc}
 use lib.Dec.{leb, eqb}
 use borrow.Author.Tests.{eqb-true, eqb-false, lt-ltb, le-leb, leb-true, leb-false}
 use Rattle.flows.specs.declared.Flow.{Flow}
@@ -15,8 +14,8 @@ use Rattle.flows.specs.declared.Cause.the-variants.{Accepted, Delays, Full, Mal
 use Rattle.flows.specs.Refusals.{acceptedBy}
 use Rattle.flows.specs.Lists.{mostFlows}
 use Rattle.flows.specs.Tests.{delayCause, flowCause}
-use Rattle.flows.specs.WellFormed.{Exactly, WellFormed, OfDelays, delays-fit, delays-unfit, Each, each-none, each-more, Typed}
-use Rattle.row.specs.Rows.{lastNumber, Rising, rising-none, rising-more}
+use Rattle.flows.specs.WellFormed.{Exactly, WellFormed, OfDelays, delays-fit, delays-unfit, Typed}
+use Rattle.row.specs.Rows.{lastNumber}
 use Rattle.records.specs.Kinds.{linksRecord, flowRecord, endKind}
 use Rattle.records.specs.Bodies.{Bytes}
 use Rattle.records.specs.Rows.{rowBytes}
@@ -31,13 +30,14 @@ use Rattle.plan.specs.Demands.{InForm, StartsLinks, StartsFlow, StartsEn
 use Rattle.flows.proofs.Causes.{accepted-only, not-accepted, refused-never}
 use Rattle.flows.proofs.Passed.{delays-exact, flow-exact, formed, formed-passes}
 use Rattle.row.proofs.Arrays.{length-snoc}
+use Rattle.row.proofs.Longer.{rising-snoc, each-snoc}
 use Rattle.row.proofs.Valid.{readable-none}
 use Rattle.records.proofs.Writing.{length-flow}
 use Rattle.reader.proofs.Places.{is-kind, impossible}
 use Rattle.reader.proofs.Records.{first-byte}
 use Rattle.plan.proofs.Steps.{falls-zero, falls-not, falls-order, flows-at-other, flows-at-end, flows-at-flow, plan-at-other}
 use Rattle.records.proofs.Rows.{row-snoc}
-use Rattle.plan.proofs.Trips.{last-snoc, end-here, end-starts, flow-here, flow-same, flow-starts, links-starts, links-here, plan-starts, after-rest, read-after, form-read, flows-long}
+use Rattle.plan.proofs.Trips.{number-last, end-here, end-starts, flow-here, flow-same, flow-starts, links-starts, links-here, plan-starts, after-rest, read-after, form-read, flows-long}
 
 -- ---- a flow's record: accepted, or refused as the words say
 record Taken (fs : List Flow) (f : Flow) : Type 0 where
@@ -77,15 +77,6 @@ module _ (fs : List Flow) (f : Flow) (t : Typed f) where
   record-only c (no-room h w g) = (rw (rises-in (inr h), formed-passes f t w, le-leb _ _ g), refl)
 
 -- ---- the records that are not refused, and one more
-each-snoc : {A : Type 0} (P : A → Type 0) (l : List A) (x : A) → Each P l → P x → Each P (l ++ (x ∷ []))
-each-snoc P [] x e p = each-more p each-none
-each-snoc P (y ∷ l) x (each-more q e) p = each-more q (each-snoc P l x e p)
-
-rising-snoc : (gs fs : List Flow) (f : Flow) → Rising (lastNumber fs) gs → lastNumber (fs ++ gs) < f .number → Rising (lastNumber fs) (gs ++ (f ∷ []))
-rising-snoc [] fs f r h = rising-more (rw (append-nil fs) at h) rising-none
-rising-snoc (g ∷ gs) fs f (rising-more i r) h =
-    rising-more i (rw (last-snoc fs g) at (rising-snoc gs (fs ++ (g ∷ [])) f (rw (last-snoc fs g) r) (rw (append-snoc fs g gs) h)))
-
 module _ {b : List ℕ} {fs : List Flow} {at : ℕ} {rest : List ℕ} (a : After b fs at rest) where
   abbrev before : List ℕ
   before = linksBytes (a .lmin) (a .lmax) ++ flowsBytes fs
@@ -103,7 +94,7 @@ module _ {b : List ℕ} {fs : List Flow} {at : ℕ} {rest : List ℕ} (a : After
         lmax = a .lmax;
         readable = record {
           delays = a .readable .delays;
-          rising = rising-snoc fs [] f (a .readable .rising) (k .rises);
+          rising = rising-snoc (λ (g : Flow). g .number) lastNumber number-last fs [] f (a .readable .rising) (k .rises);
           count = omega (arith, k .room, length-snoc fs f);
           flows = each-snoc _ fs f (a .readable .flows) (k .flow);
           typed = each-snoc _ fs f (a .readable .typed) (s .typed);

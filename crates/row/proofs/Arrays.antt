@@ -37,20 +37,31 @@ pub none-row : (f : Flow) → f ≡ noFlow → record { flows = replicate mostFl
 unfolding rowOf
 none-row f e = rw e
 
+-- an array of which the first count places are used
+module _ {A : Type 0} (all : List A) (count : ℕ) where
+  pub used-all : {most : ℕ} → length all ≡ most → most < count → most ≡ length (take count all)
+  used-all len h = omega (arith, length-take count all)
+
+  pub used-count : {most : ℕ} → length all ≡ most → count ≤ most → count ≡ length (take count all)
+  used-count len h = omega (arith, length-take count all)
+
+  pub used-at : (k : ℕ) (d : A) → k < length (take count all) → getD (take count all) k d ≡ getD all k d
+  used-at k d h = getD-take count all k d (omega (arith, length-take count all))
+
 module _ (row : Row) (len : length (row .flows) ≡ mostFlows) where
   pub size-all : mostFlows < row .count → mostFlows ≡ length (held row)
   unfolding held
-  size-all h = omega (arith, length-take (row .count) (row .flows))
+  size-all h = used-all (row .flows) (row .count) len h
 
   pub size-count : row .count ≤ mostFlows → row .count ≡ length (held row)
   unfolding held
-  size-count h = omega (arith, length-take (row .count) (row .flows))
+  size-count h = used-count (row .flows) (row .count) len h
 
   pub held-at : (k : ℕ) (d : Flow) → k < length (held row) → getD (held row) k d ≡ getD (row .flows) k d
   unfolding held
-  held-at k d h = getD-take (row .count) (row .flows) k d (omega (arith, length-take (row .count) (row .flows)))
+  held-at k d h = used-at (row .flows) (row .count) k d h
 
-take-counted : {A : Type 0} (l : List A) (k m : ℕ) → m ≡ length (take k l) → take m l ≡ take k l
+pub take-counted : {A : Type 0} (l : List A) (k m : ℕ) → m ≡ length (take k l) → take m l ≡ take k l
 take-counted l zero m e = rw e
 take-counted [] (suc k) m e = rw e
 take-counted (x ∷ l) (suc k) zero e = absurd (omega arith)
@@ -74,15 +85,15 @@ module _ (row : Row) (f : Flow) where
   unfolding appended
   append-count r e h = ap (λ (s : Row). s .count) (e ∙ sym (append-stored h))
 
-stored : (fs : List Flow) (f : Flow) → length fs < mostFlows →
-    set (fs ++ replicate (mostFlows - length fs) noFlow) (length fs) f ≡ (fs ++ (f ∷ [])) ++ replicate (mostFlows - (length fs + 1)) noFlow
-stored fs f h =
-    let e : mostFlows - length fs ≡ suc (mostFlows - (length fs + 1)) = omega arith in
+pub stored : {A : Type 0} (most : ℕ) (none : A) (xs : List A) (x : A) → length xs < most →
+    set (xs ++ replicate (most - length xs) none) (length xs) x ≡ (xs ++ (x ∷ [])) ++ replicate (most - (length xs + 1)) none
+stored most none xs x h =
+    let e : most - length xs ≡ suc (most - (length xs + 1)) = omega arith in
     rw (e, set-append-seam, append-snoc)
 
 pub append-list : (fs : List Flow) (f : Flow) → length fs < mostFlows → appended (rowOf fs) f ≡ rowOf (fs ++ (f ∷ []))
 unfolding appended rowOf
-append-list fs f h = rw (lt-leb _ _ h, stored fs f h, length-snoc)
+append-list fs f h = rw (lt-leb _ _ h, stored mostFlows noFlow fs f h, length-snoc)
 
 -- ---- a search: what is left from place k decides
 module _ {A : Type 0} (p : A → Bool) (l : List A) (k : ℕ) (d : A) (inv : firstOf p l ≡ k + firstOf p (drop k l)) where

@@ -56,6 +56,9 @@ entryCause fs f =
     (cond (leb mostFlows (length fs)) Full Accepted))
 
 -- numbers above n, each above the one before
-pub data Rising : ℕ → List Flow → Type 0 where
-  rising-none : {n : ℕ} → Rising n []
-  rising-more : {n : ℕ} {f : Flow} {fs : List Flow} → n < f .number → Rising (f .number) fs → Rising n (f ∷ fs)
+pub data RisingBy {A : Type 0} (number : A → ℕ) : ℕ → List A → Type 0 where
+  rising-none : {n : ℕ} → RisingBy number n []
+  rising-more : {n : ℕ} {x : A} {xs : List A} → n < number x → RisingBy number (number x) xs → RisingBy number n (x ∷ xs)
+
+abbrev pub Rising : ℕ → List Flow → Type 0
+Rising n fs = RisingBy (λ f. f .number) n fs
