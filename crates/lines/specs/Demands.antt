@@ -81,23 +81,23 @@ pub record After (b : List ℕ) (n : ℕ) (ls : List Line) (place : ℕ) (rest :
   pub place-is : place ≡ length (countBytes n ++ linesBytes ls)
 
 -- a line's record after those of ls: 12 for a number that is 0 or does not rise, then 3
-pub data OfLine (ls : List Line) (l : Line) : Cause → Type 0 where
-  not-rising : l .number ≤ lastNumber ls → OfLine ls l Malformed
-  not-possible : lastNumber ls < l .number → (Possible (l .figures) → ⊥) → OfLine ls l OutOfRange
+pub data OfRecord (ls : List Line) (l : Line) : Cause → Type 0 where
+  not-rising : l .number ≤ lastNumber ls → OfRecord ls l Malformed
+  not-possible : lastNumber ls < l .number → (Possible (l .figures) → ⊥) → OfRecord ls l OutOfRange
 
 -- the first record that is refused, and where; a byte after the end is refused at its own place
 pub data Unread (b : List ℕ) : Cause → ℕ → Type 0 where
   no-count : ((n : ℕ) → StartsCount b n → ⊥) → Unread b Malformed 0
   too-many : (n : ℕ) → StartsCount b n → 16 < n → Unread b Malformed 0
   no-line : (n : ℕ) (ls : List Line) (place : ℕ) (rest : List ℕ) → After b n ls place rest → length ls < n → ((l : Line) → StartsLine rest l → ⊥) → Unread b Malformed place
-  of-line : (n : ℕ) (ls : List Line) (place : ℕ) (rest : List ℕ) (l : Line) (c : Cause) → After b n ls place rest → length ls < n → StartsLine rest l → OfLine ls l c → Unread b c place
+  of-line : (n : ℕ) (ls : List Line) (place : ℕ) (rest : List ℕ) (l : Line) (c : Cause) → After b n ls place rest → length ls < n → StartsLine rest l → OfRecord ls l c → Unread b c place
   no-close : (n : ℕ) (ls : List Line) (place : ℕ) (rest : List ℕ) → After b n ls place rest → length ls ≡ n → (StartsClose rest → ⊥) → Unread b Malformed place
   after-close : (n : ℕ) (ls : List Line) (place x : ℕ) (rest : List ℕ) → After b n ls place (closeKind ∷ x ∷ rest) → length ls ≡ n → Unread b Malformed (place + 1)
 
 -- a place where a record is looked for, and the bytes from there on
-pub data Sought (b : List ℕ) : ℕ → List ℕ → Type 0 where
-  at-start : Sought b 0 b
-  behind : (n : ℕ) (ls : List Line) (place : ℕ) (rest : List ℕ) → After b n ls place rest → Sought b place rest
+pub data Sought (b rest : List ℕ) : ℕ → Type 0 where
+  at-start : b ≡ rest → Sought b rest 0
+  behind : (n : ℕ) (ls : List Line) (place : ℕ) → After b n ls place rest → Sought b rest place
 
 -- a byte that is no kind of a report
 pub record Foreign (x : ℕ) : Type 0 where
@@ -114,7 +114,7 @@ pub record ReportRead (b : List ℕ) (r : Reading) : Type 0 where
   -- nothing is shown of a refused report
   pub empty : (r .outcome ≡ Read → ⊥) → r .report ≡ reportOf []
   -- a kind that a report does not have is refused wherever a record is looked for: a plan is, and what comes later is
-  pub foreign : (place x : ℕ) (rest : List ℕ) → Sought b place (x ∷ rest) → Foreign x → r .outcome ≡ outcome.Refused Malformed place
+  pub foreign : (x place : ℕ) (rest : List ℕ) → Sought b (x ∷ rest) place → Foreign x → r .outcome ≡ outcome.Refused Malformed place
 
 -- ---- writing
 -- 13 and a buffer as it was, if it is short; otherwise the length, a buffer that keeps its rest, and whose beginning is read as that report

@@ -82,7 +82,8 @@ pub fn ask(report: Report, number: u8) -> Asked
     while k < n {
         let line = report.lines[k];
         if line.number == number {
-            return Asked::Given(line.figures);
+            let figures = line.figures;
+            return Asked::Given(figures);
         }
         k += 1;
     }

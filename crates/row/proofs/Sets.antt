@@ -17,7 +17,7 @@ use Rattle.flows.specs.Refusals.{acceptedBy}
 use Rattle.flows.specs.Tests.{flowCause}
 use Rattle.flows.specs.WellFormed.{Exact, Each, each-none, each-more, Typed}
 use Rattle.row.specs.declared.Found.the-variants.{At, Nothing}
-use Rattle.row.specs.Rows.{firstOf, placeOf, foundIn, insertSorted, without, entryCause, Rising, rising-none, rising-more}
+use Rattle.row.specs.Rows.{firstOf, placeOf, foundIn, insertSorted, without, entryCause, RisingBy, Rising, rising-none, rising-more}
 use Rattle.flows.proofs.Causes.{accepted-only, not-accepted, refused-never}
 use Rattle.row.specs.Sets.{Lacks, Enters, OfEntry, by-itself, number-taken, no-room, let-in}
 use Rattle.flows.proofs.Passed.{exact-from, exact-as, flow-exact, formed, formed-passes}
@@ -50,10 +50,10 @@ without-rising {n} number (f ∷ fs) (rising-more h r) = go (eqb (f .number) num
     go false ih = rising-more h ih
 
 -- ---- equal sets, equal rows
-above : {n : ℕ} {g : Flow} (fs : List Flow) → Rising n fs → List·Memᴰ g fs → n < g .number
+pub above : {A : Type 0} {number : A → ℕ} {n : ℕ} {y : A} (xs : List A) → RisingBy number n xs → List·Memᴰ y xs → n < number y
 above [] r m = absurd (List·Memᴰ·not-nil m)
-above {n} {g} (f ∷ fs) (rising-more h r) m =
-    ⊎-elim (λ (e : g ≡ f). rw e h) (λ (i : List·Memᴰ g fs). let l = above fs r i in omega arith) (List·Memᴰ·cases-cons m)
+above {y = y} (x ∷ xs) (rising-more h r) m =
+    ⊎-elim (λ (e : y ≡ x). rw e h) (λ (i : List·Memᴰ y xs). let l = above xs r i in omega arith) (List·Memᴰ·cases-cons m)
 
 -- every flow of fs is one of gs
 abbrev Within : List Flow → List Flow → Type 0
