@@ -552,8 +552,13 @@ impl Stream {
         }
     }
 
+    /// Often with two faults, of which one decides.
     fn any_harmed(&mut self) {
-        let harm = self.dice.one_of(&report_damage::all());
+        let harm = if self.dice.once_in(4) {
+            self.dice.one_of(&[Harm::TwoFaults, Harm::FaultAndMore])
+        } else {
+            self.dice.one_of(&report_damage::all())
+        };
         self.harmed(harm);
     }
 

@@ -24,6 +24,8 @@ pub enum Harm {
     Twice(Spot),
     Swapped,
     EndEarly,
+    /// That of a plan in its place.
+    PlansEnd,
     AfterEnd,
     /// One more announced than there are, one fewer, or any other number.
     CountOff,
@@ -86,11 +88,12 @@ const OF_FIGURES: [Fault; 4] = [
     Fault::JitterAboveBound,
 ];
 /// Harms that are not done at a certain spot.
-const ANYWHERE: [Harm; 17] = [
+const ANYWHERE: [Harm; 18] = [
     Harm::TwoFaults,
     Harm::FaultAndMore,
     Harm::Swapped,
     Harm::EndEarly,
+    Harm::PlansEnd,
     Harm::AfterEnd,
     Harm::CountOff,
     Harm::CountAboveSixteen,
@@ -238,6 +241,7 @@ fn harm_records(harm: Harm, records: &mut Records, lines: &[Figures], dice: &mut
         Harm::Twice(spot) => records.insert(at(spot), records[at(spot)].clone()),
         Harm::Swapped => records.swap(1, later),
         Harm::EndEarly => records.swap(later, end),
+        Harm::PlansEnd => records[end] = vec![plan::END],
         Harm::AfterEnd | Harm::SixteenAndAfterEnd => records.push(after_end(records, dice)),
         Harm::CountOff => records[0][1] = count_off(lines.len(), dice),
         Harm::CountAboveSixteen => records[0][1] = dice.one_of(&[17, 18, 31, 128, 255]),
