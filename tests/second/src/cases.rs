@@ -42,7 +42,7 @@ impl Findings {
     }
 
     /// The flows are judged as a plan, as a set, and by admissions in both
-    /// orders of number.
+    /// orders of number; the table's report is read.
     fn figures(&mut self, name: &str, flows: &[Flow], wanted: &[Row]) {
         let rows: Vec<Figures> = flows
             .iter()

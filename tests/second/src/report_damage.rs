@@ -145,41 +145,14 @@ pub fn all() -> Vec<Harm> {
 /// The lines' report with the harm done to it. They are two or more.
 pub fn make(harm: Harm, lines: &[Figures], dice: &mut Dice) -> Vec<u8> {
     let mut lines = lines.to_vec();
-    match harm {
-        Harm::Line(spot, fault) => {
-            let at = line_at(spot, &lines, dice);
-            spoil(&mut lines, at, fault, dice);
-        }
-        Harm::Both(spot) => {
-            let at = line_at(spot, &lines, dice);
-            spoil_figures(&mut lines, at, dice);
-            let fault = dice.one_of(&OF_NUMBERS);
-            spoil(&mut lines, at, fault, dice);
-        }
-        Harm::TwoFaults => {
-            spoil_any(&mut lines, dice);
-            spoil_any(&mut lines, dice);
-        }
-        Harm::FaultAndMore => {
-            spoil_any(&mut lines, dice);
-            let others: Vec<Harm> = all().into_iter().filter(|h| *h != harm).collect();
-            return make(dice.one_of(&others), &lines, dice);
-        }
-        Harm::OneByte => return change_bytes(report::write(&lines), 1, &MARKS, dice),
-        Harm::SomeBytes => {
-            let times = dice.pick(2, 4);
-            return change_bytes(report::write(&lines), times, &MARKS, dice);
-        }
-        Harm::Cut => return cut(report::write(&lines), dice),
-        Harm::Noise => return noise(dice),
-        Harm::Stub => return stub(dice),
-        Harm::SixteenAndOneMore => return sixteen_and_one_more(dice),
-        Harm::SixteenAndAfterEnd => lines = made_up(FLOWS, dice),
-        _ => {}
+    harm_lines(harm, &mut lines, dice);
+    if harm == Harm::FaultAndMore {
+        let others: Vec<Harm> = all().into_iter().filter(|h| *h != harm).collect();
+        return make(dice.one_of(&others), &lines, dice);
     }
     let mut records = records(&lines);
     harm_records(harm, &mut records, &lines, dice);
-    records.concat()
+    harm_bytes(harm, records.concat(), dice)
 }
 
 /// A report, and behind its end bytes up to this length.
@@ -225,6 +198,31 @@ fn records(lines: &[Figures]) -> Records {
         .collect()
 }
 
+/// What a harm does to the lines, if it does anything to them.
+fn harm_lines(harm: Harm, lines: &mut Vec<Figures>, dice: &mut Dice) {
+    match harm {
+        Harm::Line(spot, fault) => {
+            let at = line_at(spot, lines, dice);
+            spoil(lines, at, fault, dice);
+        }
+        Harm::Both(spot) => {
+            let at = line_at(spot, lines, dice);
+            spoil_figures(lines, at, dice);
+            let fault = dice.one_of(&OF_NUMBERS);
+            spoil(lines, at, fault, dice);
+        }
+        Harm::TwoFaults => {
+            spoil_any(lines, dice);
+            spoil_any(lines, dice);
+        }
+        Harm::FaultAndMore => spoil_any(lines, dice),
+        Harm::SixteenAndOneMore => *lines = made_up(FLOWS + 1, dice),
+        Harm::SixteenAndAfterEnd => *lines = made_up(FLOWS, dice),
+        _ => {}
+    }
+}
+
+/// What it does to the records.
 fn harm_records(harm: Harm, records: &mut Records, lines: &[Figures], dice: &mut Dice) {
     let end = records.len() - 1;
     let later = 2 + dice.index(lines.len() - 1);
@@ -247,14 +245,30 @@ fn harm_records(harm: Harm, records: &mut Records, lines: &[Figures], dice: &mut
         Harm::CountAboveSixteen => records[0][1] = dice.one_of(&[17, 18, 31, 128, 255]),
         Harm::LineMore => records.insert(end, report::record(&one_more(lines, dice))),
         Harm::BadLineMore => records.insert(end, bad_line_more(lines, dice)),
+        Harm::SixteenAndOneMore => records[0][1] = FLOWS as u8,
         Harm::EndsBefore(spot) => records.truncate(at(spot)),
         Harm::EndsInside(spot) => ends_inside(records, at(spot), dice),
         Harm::BadLineCut => bad_line_cut(records, lines, dice),
-        // The others have been done.
         _ => {}
     }
 }
 
+/// And to the bytes.
+fn harm_bytes(harm: Harm, bytes: Vec<u8>, dice: &mut Dice) -> Vec<u8> {
+    match harm {
+        Harm::OneByte => change_bytes(bytes, 1, &MARKS, dice),
+        Harm::SomeBytes => {
+            let times = dice.pick(2, 4);
+            change_bytes(bytes, times, &MARKS, dice)
+        }
+        Harm::Cut => cut(bytes, dice),
+        Harm::Noise => noise(dice),
+        Harm::Stub => stub(dice),
+        _ => bytes,
+    }
+}
+
+/// The index of the line.
 fn line_at(spot: Spot, lines: &[Figures], dice: &mut Dice) -> usize {
     match spot {
         Spot::Later => 1 + dice.index(lines.len() - 1),
@@ -355,12 +369,6 @@ fn spoil_figures(lines: &mut [Figures], at: usize, dice: &mut Dice) {
     spoil(lines, at, fault, dice);
 }
 
-fn sixteen_and_one_more(dice: &mut Dice) -> Vec<u8> {
-    let mut bytes = report::write(&made_up(FLOWS + 1, dice));
-    bytes[1] = FLOWS as u8;
-    bytes
-}
-
 fn ends_inside(records: &mut Records, at: usize, dice: &mut Dice) {
     records.truncate(at + 1);
     let length = records[at].len();
@@ -429,10 +437,16 @@ mod tests {
         }
     }
 
-    /// Bytes changed at random can give another report in order.
+    /// Other bytes can make another report in order, and one harm undo another.
     #[test]
     fn harmed_reports_are_refused() {
-        let may_pass = [Harm::OneByte, Harm::SomeBytes, Harm::Noise, Harm::Stub];
+        let may_pass = [
+            Harm::OneByte,
+            Harm::SomeBytes,
+            Harm::Noise,
+            Harm::Stub,
+            Harm::FaultAndMore,
+        ];
         for harm in all() {
             let refused = refusals(harm).iter().all(Option::is_some);
             assert!(refused || may_pass.contains(&harm), "{harm:?}");
