@@ -2,9 +2,10 @@
 
 use crate::flow::{push_two, two, Links, Record, BODY};
 use crate::frames;
-use crate::judge::{line, table_text};
+use crate::judge::{line, lines_text};
 use crate::plan;
 use crate::refusal::Refusal;
+use crate::report;
 use crate::set::Set;
 use crate::table::Table;
 use std::io::{self, Write};
@@ -23,6 +24,9 @@ pub enum Call {
     Read(Vec<u8>),
     WriteSet,
     Judge,
+    WriteReport,
+    /// Read these bytes as a report.
+    ReadReport(Vec<u8>),
 }
 
 /// What the calls are made on. RULES, programs.
@@ -49,9 +53,11 @@ fn parse(input: &[u8]) -> Option<(Call, usize)> {
         b'T' => Some((Call::Print, 1)),
         b'P' => Some((Call::Write, 1)),
         b'B' => Some((lend(two(body(2)?, 0) as usize)?, 3)),
-        b'L' => Some(read(frames::first(&input[1..])?)),
+        b'L' => with_bytes(Call::Read, &input[1..]),
         b'S' => Some((Call::WriteSet, 1)),
         b'J' => Some((Call::Judge, 1)),
+        b'R' => Some((Call::WriteReport, 1)),
+        b'F' => with_bytes(Call::ReadReport, &input[1..]),
         _ => None,
     }
 }
@@ -60,8 +66,16 @@ fn lend(length: usize) -> Option<Call> {
     (length <= LONGEST).then_some(Call::Lend(length))
 }
 
-fn read(plan: &[u8]) -> (Call, usize) {
-    (Call::Read(plan.to_vec()), 3 + plan.len())
+/// A call that is handed a plan or a report, which stands after its length.
+fn with_bytes(call: fn(Vec<u8>) -> Call, rest: &[u8]) -> Option<(Call, usize)> {
+    let bytes = frames::first(rest)?;
+    Some((call(bytes.to_vec()), 3 + bytes.len()))
+}
+
+fn letter_and_bytes(letter: u8, bytes: &[u8]) -> Vec<u8> {
+    let mut out = vec![letter];
+    frames::push(&mut out, bytes);
+    out
 }
 
 impl Call {
@@ -78,13 +92,11 @@ impl Call {
                 push_two(&mut out, *length as i64);
                 out
             }
-            Call::Read(plan) => {
-                let mut out = vec![b'L'];
-                frames::push(&mut out, plan);
-                out
-            }
+            Call::Read(plan) => letter_and_bytes(b'L', plan),
             Call::WriteSet => vec![b'S'],
             Call::Judge => vec![b'J'],
+            Call::WriteReport => vec![b'R'],
+            Call::ReadReport(report) => letter_and_bytes(b'F', report),
         }
     }
 
@@ -96,7 +108,7 @@ impl Call {
             Call::Admit(record) => said(table.admit(record), |_| word("admitted")),
             Call::Withdraw(number) => said(table.withdraw(*number), |_| word("withdrawn")),
             Call::Ask(number) => said(table.ask(*number), |figures| line(&figures)),
-            Call::Print => table_text(table),
+            Call::Print => lines_text(table.figures()),
             Call::Write => written(table),
             Call::Lend(length) => lent(table, *length),
             Call::Read(plan) => put(set, plan::read(plan), |set| {
@@ -104,6 +116,8 @@ impl Call {
             }),
             Call::WriteSet => hexadecimal(&plan::write(set)),
             Call::Judge => put(table, Table::judge(set), |_| word("judged")),
+            Call::WriteReport => reported(table),
+            Call::ReadReport(bytes) => report::text(bytes),
         }
     }
 }
@@ -140,6 +154,14 @@ fn written(table: &mut Table) -> String {
     let again = Table::of_plan(&bytes).expect("the plan of a table is accepted");
     assert_eq!(again, *table, "the plan of a table gives it back");
     *table = again;
+    hexadecimal(&bytes)
+}
+
+/// The report's bytes in hexadecimal.
+fn reported(table: &Table) -> String {
+    let bytes = report::write(table.figures());
+    let lines = report::read(&bytes).expect("the report of a table is not refused");
+    assert_eq!(lines, table.figures(), "a report gives the figures back");
     hexadecimal(&bytes)
 }
 
@@ -394,6 +416,44 @@ mod tests {
         assert_eq!(answers(&stream(&calls)), text);
     }
 
+    /// Case 4 as a report. RULES, programs.
+    const CASE_4_REPORT: [u8; 19] = [
+        0x10, 2, 0x11, 1, 0, 7, 0, 4, 0, 3, 0x11, 2, 0, 8, 0, 3, 0, 8, 0x1F,
+    ];
+
+    #[test]
+    fn reports_leave_table_and_set() {
+        let cut = &CASE_4_REPORT[..18];
+        let calls = [
+            Call::WriteReport,
+            Call::Read(case_4(60)),
+            Call::Judge,
+            Call::WriteReport,
+            Call::ReadReport(vec![0x10, 0, 0x1F]),
+            Call::ReadReport(cut.to_vec()),
+            Call::ReadReport(CASE_4_REPORT.to_vec()),
+            Call::Print,
+            Call::WriteSet,
+        ];
+        let report = hexadecimal(&CASE_4_REPORT);
+        let set = hexadecimal(&case_4(60));
+        let text = format!(
+            "fresh\n10001f\nread 2\njudged\n{report}flow bound jitter busy\n\
+             refused 12 flow 0 at 18\n{CASE_4}{CASE_4}{set}"
+        );
+        assert_eq!(answers(&stream(&calls)), text);
+    }
+
+    #[test]
+    fn plans_and_reports_are_told_apart() {
+        let calls = [
+            Call::Read(CASE_4_REPORT.to_vec()),
+            Call::ReadReport(case_4(60)),
+        ];
+        let text = "fresh\nrefused 12 flow 0 at 0\nrefused 12 flow 0 at 0\n";
+        assert_eq!(answers(&stream(&calls)), text);
+    }
+
     #[test]
     fn bad_calls_end_the_answers() {
         assert_eq!(answers(&[]), "bad call\n");
@@ -409,9 +469,12 @@ mod tests {
         assert_eq!(answers(&[0, 1, 0, 1, b'B', 255, 255]), "fresh\nbad call\n");
         assert_eq!(answers(&[0, 1, 0, 1, b'L', 0]), "fresh\nbad call\n");
         assert_eq!(answers(&[0, 1, 0, 1, b'L', 255, 255]), "fresh\nbad call\n");
+        assert_eq!(answers(&[0, 1, 0, 1, b'F', 0]), "fresh\nbad call\n");
+        assert_eq!(answers(&[0, 1, 0, 1, b'F', 255, 255]), "fresh\nbad call\n");
         for call in [
             Call::Admit(flow(1, 1, 1, 10).record()),
             Call::Read(case_4(60)),
+            Call::ReadReport(vec![0x10, 0, 0x1F]),
         ] {
             let mut cut = stream(&[call]);
             cut.pop();
@@ -438,6 +501,9 @@ mod tests {
             Call::Read(vec![b'J'; 65_535]),
             Call::WriteSet,
             Call::Judge,
+            Call::WriteReport,
+            Call::ReadReport(vec![]),
+            Call::ReadReport(vec![b'R'; 65_535]),
         ];
         for call in calls {
             let bytes = call.bytes();

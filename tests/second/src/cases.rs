@@ -6,6 +6,7 @@ use crate::flow::{Flow, Links};
 use crate::judge;
 use crate::plan;
 use crate::refusal::Refusal;
+use crate::report;
 use crate::set::Set;
 use crate::table::Table;
 use crate::verdict::{judge_set, Figures};
@@ -41,20 +42,16 @@ impl Findings {
     }
 
     /// The flows are judged as a plan, as a set, and by admissions in both
-    /// orders of number.
+    /// orders of number; the table's report is read.
     fn figures(&mut self, name: &str, flows: &[Flow], wanted: &[Row]) {
         let rows: Vec<Figures> = flows
             .iter()
             .zip(wanted)
-            .map(|(f, w)| Figures {
-                number: f.number,
-                bound: w.0,
-                jitter: w.1,
-                busy: w.2,
-            })
+            .map(|(f, w)| figures(f.number, *w))
             .collect();
         let set = set(flows);
         self.comes_back(name, &set);
+        self.same(name, report::read(&reported(flows)), Ok(rows.clone()));
         self.same(name, planned(&set), Ok(rows.clone()));
         self.same(name, judge_set(&set), Ok(rows.clone()));
         self.same(
@@ -81,6 +78,15 @@ impl Findings {
     fn comes_back(&mut self, name: &str, set: &Set) {
         let read = plan::read(&plan::write(set));
         self.same(name, read, Ok(set.clone()));
+    }
+}
+
+fn figures(number: i64, row: Row) -> Figures {
+    Figures {
+        number,
+        bound: row.0,
+        jitter: row.1,
+        busy: row.2,
     }
 }
 
@@ -141,6 +147,11 @@ fn admitted<'a>(flows: impl Iterator<Item = &'a Flow>) -> Table {
     table
 }
 
+/// The report of the table with these flows.
+fn reported(flows: &[Flow]) -> Vec<u8> {
+    report::write(admitted(flows.iter()).figures())
+}
+
 fn case_3() -> [Flow; 2] {
     [flow(1, 3, 10), flow(2, 5, 20)]
 }
@@ -163,7 +174,7 @@ fn case_10(jitter: i64) -> [Flow; 1] {
     [with_deadline(65_535, with_jitter(jitter, flow(1, 1, 10)))]
 }
 
-/// Cases 1 to 14.
+/// Cases 1 to 14, then the rows of "The report".
 pub fn cases(out: &mut Findings) {
     case_1(out);
     out.figures(
@@ -194,6 +205,7 @@ pub fn cases(out: &mut Findings) {
     case_12(out);
     case_13(out);
     case_14(out);
+    reports(out);
 }
 
 fn case_1(out: &mut Findings) {
@@ -256,15 +268,39 @@ fn case_13(out: &mut Findings) {
 fn case_14(out: &mut Findings) {
     let mut table = admitted(case_3().iter());
     out.same("case 14", table.withdraw(2), Ok(()));
-    let alone = Figures {
-        number: 1,
-        bound: 3,
-        jitter: 0,
-        busy: 3,
-    };
-    out.same("case 14", table.ask(1), Ok(alone));
+    out.same("case 14", table.ask(1), Ok(figures(1, (3, 0, 3))));
     let [first, _] = case_3();
     out.same("case 14, table", table, admitted([first].iter()));
+}
+
+/// Bytes and their outcome. RULES, the report.
+fn reports(out: &mut Findings) {
+    let mut row = |bytes: &[u8], wanted| out.same("a report", report::read(bytes), wanted);
+    row(&[0x10, 0x00, 0x1F], Ok(vec![]));
+    row(
+        &[0x10, 0x02, 0x11, 0x01, 0, 0, 0, 0, 0, 5, 0xFF],
+        Err(Refusal::at(3, 2)),
+    );
+    row(&[0x10, 0x01, 0x1F], Err(Refusal::at(12, 2)));
+    row(&[0x10, 0x11], Err(Refusal::at(12, 0)));
+    row(&[0x10, 0x11, 0x1F], Err(Refusal::at(12, 0)));
+    let one = [0x10, 0x01, 0x11, 0x01, 0, 7, 0, 4, 0, 3, 0x1F, 0];
+    row(&one[..11], Ok(vec![figures(1, (7, 4, 3))]));
+    row(&one, Err(Refusal::at(12, 11)));
+    let [first, _] = case_4();
+    out.same(
+        "a plan",
+        report::read(&plan::write(&set(&[first]))),
+        Err(Refusal::at(12, 0)),
+    );
+    out.same("a report", plan::read(&one[..11]), Err(Refusal::at(12, 0)));
+    let two = reported(&case_4());
+    out.same("a report, length", two.len(), 3 + 8 * 2);
+    out.same(
+        "a report, first line",
+        two[2..10].to_vec(),
+        one[2..10].to_vec(),
+    );
 }
 
 /// Likely mistakes. RULES, errors.
@@ -274,6 +310,7 @@ pub fn errors(out: &mut Findings) {
     out.unlike("rounding towards zero", bound(&case_6(), 0), Ok(61));
     out.unlike("whole lower cost", bound(&case_4(), 0), Ok(8));
     exchanged(out);
+    exchanged_figures(out);
     older_figures(out);
     long_iteration(out);
 }
@@ -298,6 +335,17 @@ fn exchanged(out: &mut Findings) {
     out.unlike("exchanged", bounds(&case_5()), vec![17, 14]);
     let broken = plan::write(&set(&[first, exchange(&second)]));
     out.same("exchanged", plan::read(&broken), Err(Refusal::at(3, 39)));
+}
+
+/// Jitter and busy length exchanged in the report of case 5: flow 1 would have
+/// 15/3/12, which nothing refuses.
+fn exchanged_figures(out: &mut Findings) {
+    let first = |report: &[u8]| report::read(report).map(|lines| lines[0]);
+    let mut bytes = reported(&case_5());
+    let wrong = figures(1, (15, 3, 12));
+    out.unlike("exchanged figures", first(&bytes), Ok(wrong));
+    bytes[6..10].rotate_left(2);
+    out.same("exchanged figures", first(&bytes), Ok(wrong));
 }
 
 fn older_figures(out: &mut Findings) {

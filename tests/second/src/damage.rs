@@ -81,6 +81,9 @@ const FAULTS: [Fault; 4] = [
     Fault::NodeTwice,
 ];
 
+/// Bytes that are worth trying in the place of another.
+const MARKS: [u8; 8] = [0, 1, 2, 8, 9, 16, 127, 255];
+
 /// A plan as its records, each with its kind byte: links, flows, end.
 type Records = Vec<Vec<u8>>;
 
@@ -89,8 +92,11 @@ pub fn make(damage: Damage, dice: &mut Dice) -> Vec<u8> {
     let end = records.len() - 1;
     let flow = 1 + dice.index(end - 1);
     match damage {
-        Damage::OneByte => return change_bytes(records.concat(), 1, dice),
-        Damage::SomeBytes => return change_bytes(records.concat(), dice.pick(2, 4), dice),
+        Damage::OneByte => return change_bytes(records.concat(), 1, &MARKS, dice),
+        Damage::SomeBytes => {
+            let times = dice.pick(2, 4);
+            return change_bytes(records.concat(), times, &MARKS, dice);
+        }
         Damage::Cut => return cut(records.concat(), dice),
         Damage::CutAtRecord => records.truncate(dice.index(end + 1)),
         Damage::NoEnd => records.truncate(end),
@@ -145,20 +151,21 @@ fn records(set: &Set) -> Records {
         .collect()
 }
 
-fn change_bytes(mut bytes: Vec<u8>, times: i64, dice: &mut Dice) -> Vec<u8> {
+/// Other bytes in the place of some, at times one of the marks.
+pub fn change_bytes(mut bytes: Vec<u8>, times: i64, marks: &[u8], dice: &mut Dice) -> Vec<u8> {
     for _ in 0..times {
         let at = dice.index(bytes.len());
         bytes[at] = match dice.pick(0, 3) {
             0 => dice.pick(0, 255) as u8,
             1 => bytes[at] ^ (1 << dice.pick(0, 7)),
             2 => bytes[at].wrapping_add(1),
-            _ => dice.one_of(&[0, 1, 2, 8, 9, 16, 127, 255]),
+            _ => dice.one_of(marks),
         };
     }
     bytes
 }
 
-fn cut(mut bytes: Vec<u8>, dice: &mut Dice) -> Vec<u8> {
+pub fn cut(mut bytes: Vec<u8>, dice: &mut Dice) -> Vec<u8> {
     bytes.truncate(dice.index(bytes.len()));
     bytes
 }

@@ -8,15 +8,15 @@ const HEADER: &str = "flow bound jitter busy\n";
 /// For a plan: its table, or its refusal.
 pub fn text(plan: &[u8]) -> String {
     match Table::of_plan(plan) {
-        Ok(table) => table_text(&table),
+        Ok(table) => lines_text(table.figures()),
         Err(refusal) => format!("{refusal}\n"),
     }
 }
 
-/// The header and the lines of the flows.
-pub fn table_text(table: &Table) -> String {
+/// The header and the lines of the flows, of a table or a report.
+pub fn lines_text(figures: &[Figures]) -> String {
     let mut out = String::from(HEADER);
-    out.extend(table.figures().iter().map(line));
+    out.extend(figures.iter().map(line));
     out
 }
 

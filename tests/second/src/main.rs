@@ -1,6 +1,7 @@
 //! The command line.
 
-use second::{calls, cases, frames, judge, make_calls, make_frames, report};
+use second::table::Table;
+use second::{calls, cases, counts, frames, judge, make_calls, make_frames, report};
 use std::io::{self, BufWriter, Read, Write};
 use std::process::ExitCode;
 
@@ -8,6 +9,8 @@ const USAGE: &str = "\
 second judge                    a plan on standard input
 second frames                   a corpus on standard input
 second calls                    a sequence of calls on standard input
+second report-of                a plan on standard input, its report on standard output
+second show-report              a report on standard input
 second make-frames COUNT SEED   a corpus on standard output, counts on standard error
 second make-calls COUNT SEED    calls on standard output, counts on standard error
 second report frames|calls      counts of the answers to standard input
@@ -21,10 +24,12 @@ fn main() -> io::Result<ExitCode> {
         ["judge"] => put(judge::text(&input()?).as_bytes()),
         ["frames"] => stream(|bytes, out| frames::judge_all(bytes, out)),
         ["calls"] => stream(|bytes, out| calls::answer_all(bytes, out)),
+        ["report-of"] => reported(),
+        ["show-report"] => put(report::text(&input()?).as_bytes()),
         ["make-frames", count, seed] => made_frames(count, seed),
         ["make-calls", count, seed] => made_calls(count, seed),
-        ["report", "frames"] => told(&report::of_frames(&input()?)),
-        ["report", "calls"] => told(&report::of_calls(&input()?)?),
+        ["report", "frames"] => told(&counts::of_frames(&input()?)),
+        ["report", "calls"] => told(&counts::of_calls(&input()?)?),
         ["cases"] => checked(),
         _ => usage(),
     }
@@ -49,6 +54,18 @@ fn stream(answer: impl Fn(&[u8], &mut dyn Write) -> io::Result<()>) -> io::Resul
     Ok(ExitCode::SUCCESS)
 }
 
+/// The bytes of the plan's report; of a refused plan the refusal, on standard
+/// error, and failure.
+fn reported() -> io::Result<ExitCode> {
+    match Table::of_plan(&input()?) {
+        Ok(table) => put(&report::write(table.figures())),
+        Err(refusal) => {
+            eprintln!("{refusal}");
+            Ok(ExitCode::FAILURE)
+        }
+    }
+}
+
 fn usage() -> io::Result<ExitCode> {
     eprint!("{USAGE}");
     Ok(ExitCode::from(2))
@@ -59,7 +76,7 @@ fn made_frames(count: &str, seed: &str) -> io::Result<ExitCode> {
         return usage();
     };
     let bytes = make_frames::make(count, seed);
-    eprint!("{}", report::of_frames(&bytes).text());
+    eprint!("{}", counts::of_frames(&bytes).text());
     put(&bytes)
 }
 
@@ -68,12 +85,12 @@ fn made_calls(count: &str, seed: &str) -> io::Result<ExitCode> {
         return usage();
     };
     let bytes = make_calls::make(count, seed);
-    eprint!("{}", report::of_calls(&bytes)?.text());
+    eprint!("{}", counts::of_calls(&bytes)?.text());
     put(&bytes)
 }
 
 /// Fails if an answer that should come up is missing.
-fn told(tally: &report::Tally) -> io::Result<ExitCode> {
+fn told(tally: &counts::Tally) -> io::Result<ExitCode> {
     put(tally.text().as_bytes())?;
     Ok(ExitCode::from(u8::from(!tally.missing().is_empty())))
 }

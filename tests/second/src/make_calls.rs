@@ -7,9 +7,12 @@ use crate::dice::Dice;
 use crate::flow::{Flow, Links, FLOWS};
 use crate::make_frames::{plan_for, Job};
 use crate::plan;
+use crate::report;
+use crate::report_damage::{self, made_up, Harm};
 use crate::set::Set;
 use crate::sets::{self, Recipe, CHEAP};
 use crate::table::Table;
+use crate::verdict::Figures;
 
 /// The bytes so far and what the calls so far lead to.
 struct Stream {
@@ -41,6 +44,16 @@ enum Session {
     Overlong(usize),
     /// Each call just after judging.
     Judged,
+    /// Reports of tables of no flow to sixteen, read back.
+    Reports,
+    /// A report that is not in order.
+    Harmed(Harm),
+    /// Some of them.
+    SomeHarmed,
+    /// The table's report as a plan, its plan as a report, no bytes as either.
+    Exchanged,
+    /// A report with bytes behind it, up to this length.
+    OverlongReport(usize),
 }
 
 /// At least `count` calls after the first table; the last session is finished.
@@ -79,13 +92,18 @@ fn roster() -> Vec<Session> {
         Session::Buffers,
         Session::Overlong(65_535),
         Session::Judged,
+        Session::Reports,
+        Session::Exchanged,
+        Session::OverlongReport(65_535),
     ];
+    let harms = report_damage::all().into_iter().map(Session::Harmed);
     let fits = |r: &Recipe| [Fit::Loose, Fit::OneShort].map(|f| Job::Set(*r, f));
     let damages = damage::ALL.iter().map(|d| Job::Damage(*d));
     let plans = CHEAP.iter().flat_map(fits).chain(damages);
     std::iter::once(Session::Unread)
         .chain(CHEAP.iter().map(|r| Session::Grow(*r)))
         .chain(others)
+        .chain(harms)
         .chain(plans.map(Session::Plan))
         .collect()
 }
@@ -95,10 +113,13 @@ impl Stream {
     fn any(&mut self) -> Session {
         match self.dice.pick(1, 100) {
             1..=3 => Session::Full,
-            4..=14 => Session::Fields,
-            15..=18 => Session::BadLinks,
-            19 => Session::Overlong(self.dice.pick(1_200, 2_000) as usize),
-            20..=60 => Session::Plan(self.job()),
+            4..=12 => Session::Fields,
+            13..=15 => Session::BadLinks,
+            16 => Session::Overlong(self.dice.pick(1_200, 2_000) as usize),
+            17 => Session::OverlongReport(self.dice.pick(132, 900) as usize),
+            18 => Session::Exchanged,
+            19..=32 => Session::SomeHarmed,
+            33..=66 => Session::Plan(self.job()),
             _ => Session::Grow(self.recipe()),
         }
     }
@@ -137,6 +158,11 @@ impl Stream {
             Session::Plan(job) => self.plan(job),
             Session::Overlong(length) => self.overlong(length),
             Session::Judged => self.judged(),
+            Session::Reports => self.reports(),
+            Session::Harmed(harm) => self.harmed(harm),
+            Session::SomeHarmed => self.some_harmed(),
+            Session::Exchanged => self.exchanged(),
+            Session::OverlongReport(length) => self.overlong_report(length),
         }
     }
 
@@ -174,6 +200,9 @@ impl Stream {
         self.careful = recipe == Recipe::Overload;
         for flow in &set.flows {
             self.admit(flow);
+            if self.dice.once_in(4) {
+                self.call(Call::WriteReport);
+            }
             self.between(&set.flows);
         }
         self.call(Call::Print);
@@ -198,14 +227,16 @@ impl Stream {
         }
     }
 
-    /// A call on the set that leaves the table.
+    /// A call on the set or a report that leaves the table.
     fn beside(&mut self) {
-        if self.dice.once_in(2) {
-            let job = self.job();
-            let plan = plan_for(job, &mut self.dice);
-            self.call(Call::Read(plan));
-        } else {
-            self.call(Call::WriteSet);
+        match self.dice.pick(0, 3) {
+            0 | 1 => {
+                let job = self.job();
+                let plan = plan_for(job, &mut self.dice);
+                self.call(Call::Read(plan));
+            }
+            2 => self.call(Call::WriteSet),
+            _ => self.any_harmed(),
         }
     }
 
@@ -218,7 +249,7 @@ impl Stream {
 
     fn any_call(&mut self, flows: &[Flow]) {
         let k = self.dice.index(flows.len());
-        match self.dice.pick(0, 10) {
+        match self.dice.pick(0, 12) {
             0 => self.admit(&flows[k]),
             1 => self.ask_any(),
             2 => self.withdraw_any(),
@@ -226,7 +257,9 @@ impl Stream {
             4..=7 => self.present(Call::Ask),
             8 => self.call(Call::Print),
             9 => self.call(Call::Write),
-            _ => self.lend(),
+            10 => self.lend(),
+            11 => self.call(Call::WriteReport),
+            _ => self.read_back(),
         }
     }
 
@@ -293,6 +326,8 @@ impl Stream {
         let last = light(numbers[FLOWS + 1], &mut self.dice);
         self.admit(&last);
         self.call(Call::Print);
+        self.call(Call::WriteReport);
+        self.read_back();
         self.lend();
         self.call(Call::Write);
         self.lend();
@@ -383,6 +418,7 @@ impl Stream {
             Call::Print,
             Call::Write,
             Call::WriteSet,
+            Call::WriteReport,
         ] {
             self.call(Call::Judge);
             self.call(call);
@@ -430,6 +466,7 @@ impl Stream {
             .one_of(&[(1, 0), (5, 4), (0, 4_096), (4_096, 65_535)]);
         self.call(Call::Fresh(Links { least, most }));
         self.call(Call::Write);
+        self.call(Call::WriteReport);
         let flow = light(9, &mut self.dice);
         self.admit(&flow);
         self.call(Call::Ask(9));
@@ -453,6 +490,96 @@ impl Stream {
         }
         self.call(Call::Write);
         self.every_buffer();
+    }
+
+    /// Each table's report, read back; then made-up ones of as many lines. Flows
+    /// are withdrawn at last, and the table is left with some.
+    fn reports(&mut self) {
+        let links = sets::links(&mut self.dice, 5);
+        self.call(Call::Fresh(links));
+        let mut numbers = self.dice.rising(FLOWS, 255);
+        self.dice.shuffle(&mut numbers);
+        for number in &numbers {
+            self.report_and_back();
+            let flow = light(*number, &mut self.dice);
+            self.admit(&flow);
+        }
+        self.report_and_back();
+        self.call(Call::Write);
+        self.report_and_back();
+        for number in &numbers[4..] {
+            self.call(Call::Withdraw(*number));
+            self.call(Call::WriteReport);
+        }
+        for count in 0..=FLOWS {
+            let lines = made_up(count, &mut self.dice);
+            self.call(Call::ReadReport(report::write(&lines)));
+        }
+    }
+
+    fn report_and_back(&mut self) {
+        self.call(Call::WriteReport);
+        self.read_back();
+    }
+
+    /// The table's own report.
+    fn read_back(&mut self) {
+        let bytes = report::write(self.kept.table.figures());
+        self.call(Call::ReadReport(bytes));
+    }
+
+    /// The lines of the table, if it has two; if not, and at times all the same,
+    /// others.
+    fn lines(&mut self) -> Vec<Figures> {
+        let figures = self.kept.table.figures().to_vec();
+        if figures.len() >= 2 && !self.dice.once_in(3) {
+            return figures;
+        }
+        let count = self.dice.pick(2, FLOWS as i64) as usize;
+        made_up(count, &mut self.dice)
+    }
+
+    /// At times a call after it, which finds table and set as they were.
+    fn harmed(&mut self, harm: Harm) {
+        let lines = self.lines();
+        let bytes = report_damage::make(harm, &lines, &mut self.dice);
+        self.call(Call::ReadReport(bytes));
+        match self.dice.pick(0, 11) {
+            0 => self.call(Call::Print),
+            1 => self.call(Call::WriteSet),
+            2 => self.call(Call::WriteReport),
+            _ => {}
+        }
+    }
+
+    /// Often with two faults, of which one decides.
+    fn any_harmed(&mut self) {
+        let harm = if self.dice.once_in(4) {
+            self.dice.one_of(&[Harm::TwoFaults, Harm::FaultAndMore])
+        } else {
+            self.dice.one_of(&report_damage::all())
+        };
+        self.harmed(harm);
+    }
+
+    fn some_harmed(&mut self) {
+        for _ in 0..self.dice.pick(4, 12) {
+            self.any_harmed();
+        }
+    }
+
+    fn exchanged(&mut self) {
+        let plan = plan::write(self.kept.table.set());
+        self.call(Call::ReadReport(plan));
+        self.call(Call::ReadReport(vec![]));
+        let lines = self.lines();
+        self.read_and_judge(report::write(&lines));
+    }
+
+    fn overlong_report(&mut self, length: usize) {
+        let lines = self.lines();
+        let bytes = report_damage::overlong(length, &lines, &mut self.dice);
+        self.call(Call::ReadReport(bytes));
     }
 
     fn every_buffer(&mut self) {

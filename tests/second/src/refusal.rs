@@ -28,7 +28,7 @@ impl Refusal {
         }
     }
 
-    /// A refusal of a plan's record.
+    /// A refusal of a record, a plan's or a report's.
     pub fn at(number: i64, place: usize) -> Refusal {
         Refusal {
             number,

@@ -1,385 +1,270 @@
-//! Counts of the answers that a corpus or a sequence of calls leads to.
+//! Reports as bytes: reading, asking and writing. RULES, the report.
 
-use crate::calls::{self, Call};
-use crate::flow::{BODY, FLOWS};
-use crate::frames;
-use crate::plan;
+use crate::flow::{push_two, two, FLOWS};
+use crate::judge;
 use crate::refusal::Refusal;
-use crate::table::Table;
-use std::collections::BTreeMap;
-use std::io;
+use crate::verdict::Figures;
 
-/// Counts by refusal number (0 for none) and by what else tells answers apart.
-#[derive(Default)]
-pub struct Tally {
-    counts: BTreeMap<(i64, String), u64>,
-    wanted: Vec<(i64, &'static str)>,
+pub const COUNT: u8 = 0x10;
+pub const LINE: u8 = 0x11;
+pub const END: u8 = 0x1F;
+/// Body of a kind 11 record.
+pub const BODY: usize = 7;
+/// Bytes of the report of a full table.
+pub const LONGEST: usize = length(FLOWS);
+
+/// Bytes of a report of so many lines: 2 for the count, 8 for each line, 1 for
+/// the end. RULES, the report.
+pub const fn length(lines: usize) -> usize {
+    3 + 8 * lines
 }
 
-impl Tally {
-    fn add(&mut self, number: i64, what: &str) {
-        *self.counts.entry((number, what.to_string())).or_default() += 1;
+/// The lines that a report lists, or the first refusal of its records: 12 or 3.
+pub fn read(report: &[u8]) -> Result<Vec<Figures>, Refusal> {
+    let announced = read_count(report)?;
+    let mut lines: Vec<Figures> = Vec::new();
+    let mut at = 2;
+    while lines.len() < announced {
+        let line = read_line(report, at, lines.last())?;
+        lines.push(line);
+        at += 1 + BODY;
     }
-
-    fn has(&self, number: i64, what: &str) -> bool {
-        self.counts.contains_key(&(number, what.to_string()))
+    // One line more is as wrong here as an unknown kind.
+    if report.get(at) != Some(&END) {
+        return Err(Refusal::at(12, at));
     }
-
-    /// What should come up and did not.
-    pub fn missing(&self) -> Vec<String> {
-        let absent = self.wanted.iter().filter(|(n, w)| !self.has(*n, w));
-        absent.map(|(n, w)| name(*n, w)).collect()
+    if report.len() > at + 1 {
+        return Err(Refusal::at(12, at + 1));
     }
-
-    pub fn text(&self) -> String {
-        let mut out = String::new();
-        for ((number, what), count) in &self.counts {
-            out += &format!("{count:>9}  {}\n", name(*number, what));
-        }
-        let total: u64 = self.counts.values().sum();
-        out += &format!("{total:>9}  in all\n");
-        let missing = self.missing();
-        let list = if missing.is_empty() {
-            String::from("none")
-        } else {
-            missing.join("; ")
-        };
-        out + &format!("missing: {list}\n")
-    }
+    Ok(lines)
 }
 
-fn name(number: i64, what: &str) -> String {
-    match number {
-        0 => what.to_string(),
-        _ => format!("refused {number} {what}").trim_end().to_string(),
+/// How many lines the record at the start, which has to be 10, announces.
+fn read_count(report: &[u8]) -> Result<usize, Refusal> {
+    match report {
+        [COUNT, announced, ..] if usize::from(*announced) <= FLOWS => Ok(usize::from(*announced)),
+        _ => Err(Refusal::at(12, 0)),
     }
 }
 
-/// Refusal numbers with the records they can be given at, and for 12 its ways.
-const PLACES: [(i64, &str); 35] = [
-    (0, "accepted"),
-    (1, "links"),
-    (2, "first flow"),
-    (2, "later flow"),
-    (2, "seventeenth flow"),
-    (3, "first flow"),
-    (3, "later flow"),
-    (3, "seventeenth flow"),
-    (4, "first flow"),
-    (4, "later flow"),
-    (4, "seventeenth flow"),
-    (6, "seventeenth flow"),
-    (7, "whole set"),
-    (8, "whole set"),
-    (9, "whole set"),
-    (10, "whole set"),
-    (12, "links, none left"),
-    (12, "links, short body"),
-    (12, "links, unknown kind"),
-    (12, "links, wrong place"),
-    (12, "first flow, none left"),
-    (12, "first flow, short body"),
-    (12, "first flow, unknown kind"),
-    (12, "first flow, wrong place"),
-    (12, "later flow, none left"),
-    (12, "later flow, short body"),
-    (12, "later flow, unknown kind"),
-    (12, "later flow, wrong place"),
-    (12, "later flow, not rising"),
-    (12, "seventeenth flow, none left"),
-    (12, "seventeenth flow, short body"),
-    (12, "seventeenth flow, unknown kind"),
-    (12, "seventeenth flow, wrong place"),
-    (12, "seventeenth flow, not rising"),
-    (12, "after the end"),
-];
-
-/// The kinds of answers of a corpus.
-pub fn of_frames(input: &[u8]) -> Tally {
-    let mut tally = Tally {
-        wanted: PLACES.to_vec(),
-        ..Tally::default()
-    };
-    for bytes in frames::plans(input) {
-        match Table::of_plan(bytes) {
-            Ok(_) => tally.add(0, "accepted"),
-            Err(refusal) => tally.add(refusal.number, &place_class(bytes, &refusal)),
-        }
+/// The record at `at`, which has to be 11, after the line read before it.
+fn read_line(report: &[u8], at: usize, before: Option<&Figures>) -> Result<Figures, Refusal> {
+    if report.get(at) != Some(&LINE) {
+        return Err(Refusal::at(12, at));
     }
-    tally
+    let body = report
+        .get(at + 1..at + 1 + BODY)
+        .ok_or(Refusal::at(12, at))?;
+    let line = from_bytes(body);
+    // The first has to be above 0. Unlike that of a plan's flow, a number 0 is a
+    // matter of form.
+    if line.number <= before.map_or(0, |b| b.number) {
+        return Err(Refusal::at(12, at));
+    }
+    if !possible(&line) {
+        return Err(Refusal::at(3, at));
+    }
+    Ok(line)
 }
 
-/// The record that a refusal's place points at, and for 12 its way. "Links" is
-/// the record at the start, whatever its kind.
-fn place_class(plan: &[u8], refusal: &Refusal) -> String {
-    if (7..=10).contains(&refusal.number) {
-        return String::from("whole set");
-    }
-    let place = refusal.place;
-    if place > 0 && !(place - 5).is_multiple_of(1 + BODY) {
-        return String::from("after the end");
-    }
-    let record = match place {
-        0 => "links",
-        5 => "first flow",
-        _ if place == 5 + (1 + BODY) * FLOWS => "seventeenth flow",
-        _ => "later flow",
-    };
-    if refusal.number == 12 {
-        format!("{record}, {}", way(plan, place))
-    } else {
-        record.to_string()
+/// Not refusal 3: figures that a flow can have.
+pub fn possible(line: &Figures) -> bool {
+    line.bound != 0 && line.busy != 0 && line.jitter < line.bound
+}
+
+/// The fields of a record 11, one after another.
+pub fn from_bytes(body: &[u8]) -> Figures {
+    Figures {
+        number: i64::from(body[0]),
+        bound: two(body, 1),
+        jitter: two(body, 3),
+        busy: two(body, 5),
     }
 }
 
-fn way(plan: &[u8], place: usize) -> &'static str {
-    let left = plan.len() - place;
-    match plan.get(place) {
-        None => "none left",
-        Some(&plan::LINKS) if place == 0 => "short body",
-        Some(&plan::FLOW) if place > 0 && left < 1 + BODY => "short body",
-        Some(&plan::FLOW) if place > 0 => "not rising",
-        Some(&plan::LINKS | &plan::FLOW | &plan::END) => "wrong place",
-        Some(_) => "unknown kind",
-    }
+/// A line as its whole record.
+pub fn record(line: &Figures) -> Vec<u8> {
+    let mut out = vec![LINE, line.number as u8];
+    push_two(&mut out, line.bound);
+    push_two(&mut out, line.jitter);
+    push_two(&mut out, line.busy);
+    out
 }
 
-/// What the calls on a table come after is what gave the table: P, J or neither.
-/// What S and J come after is the last L or J; before L and after a refused one
-/// the set is empty.
-const ANSWERS: [(i64, &str); 79] = [
-    (0, "fresh"),
-    (0, "admitted"),
-    (0, "withdrawn"),
-    (0, "asked"),
-    (0, "printed"),
-    (0, "written"),
-    (0, "lent, exact length"),
-    (0, "lent, bytes left over"),
-    (1, "fresh"),
-    (2, "admit"),
-    (3, "admit"),
-    (4, "admit"),
-    (5, "admit"),
-    (6, "admit"),
-    (7, "admit"),
-    (8, "admit"),
-    (9, "admit"),
-    (10, "admit"),
-    (11, "withdraw"),
-    (11, "ask"),
-    (13, "lent, no byte"),
-    (13, "lent, one byte short"),
-    (13, "lent, shorter"),
-    (0, "admitted, after P"),
-    (0, "withdrawn, after P"),
-    (0, "asked, after P"),
-    (0, "printed, after P"),
-    (0, "written, after P"),
-    (0, "lent, exact length, after P"),
-    (0, "lent, bytes left over, after P"),
-    (5, "admit, after P"),
-    (11, "withdraw, after P"),
-    (11, "ask, after P"),
-    (13, "lent, one byte short, after P"),
-    (0, "read, no flow"),
-    (0, "read, some flows"),
-    (0, "read, sixteen flows"),
-    (1, "read"),
-    (2, "read"),
-    (3, "read"),
-    (4, "read"),
-    (6, "read"),
-    (12, "read"),
-    (0, "set written, before L"),
-    (0, "set written, after L"),
-    (0, "set written, after refused L"),
-    (0, "set written, after J"),
-    (0, "set written, after refused J"),
-    (0, "judged, before L"),
-    (0, "judged, after L"),
-    (0, "judged, after refused L"),
-    (0, "judged, after J"),
-    (7, "judge, after L"),
-    (8, "judge, after L"),
-    (9, "judge, after L"),
-    (10, "judge, after L"),
-    (7, "judge, after refused J"),
-    (8, "judge, after refused J"),
-    (9, "judge, after refused J"),
-    (10, "judge, after refused J"),
-    (0, "admitted, after J"),
-    (0, "withdrawn, after J"),
-    (0, "asked, after J"),
-    (0, "printed, after J"),
-    (0, "written, after J"),
-    (0, "lent, exact length, after J"),
-    (0, "lent, bytes left over, after J"),
-    (5, "admit, after J"),
-    (11, "withdraw, after J"),
-    (11, "ask, after J"),
-    (13, "lent, one byte short, after J"),
-    (0, "admitted, after refused J"),
-    (0, "printed, after refused J"),
-    (0, "written, after refused J"),
-    (0, "lent, exact length, after refused J"),
-    (0, "lent, bytes left over, after refused J"),
-    (11, "withdraw, after refused J"),
-    (11, "ask, after refused J"),
-    (13, "lent, one byte short, after refused J"),
-];
-
-/// What the table and the set come from, as the end of an answer's name.
-struct Origin {
-    table: &'static str,
-    set: &'static str,
+/// The bytes of a report of these lines: a table's figures, or what was read.
+pub fn write(lines: &[Figures]) -> Vec<u8> {
+    let mut out = vec![COUNT, lines.len() as u8];
+    out.extend(lines.iter().flat_map(record));
+    out.push(END);
+    out
 }
 
-impl Origin {
-    const FIRST: Origin = Origin {
-        table: "",
-        set: ", before L",
-    };
-
-    /// That of what the call is made on.
-    fn of(&self, call: &Call) -> &'static str {
-        match call {
-            Call::Fresh(_) | Call::Read(_) => "",
-            Call::WriteSet | Call::Judge => self.set,
-            _ => self.table,
-        }
-    }
-
-    fn step(&mut self, call: &Call, refused: bool) {
-        match call {
-            Call::Fresh(_) => self.table = "",
-            Call::Admit(_) | Call::Withdraw(_) if !refused => self.table = "",
-            Call::Write => self.table = ", after P",
-            Call::Read(_) if refused => self.set = ", after refused L",
-            Call::Read(_) => self.set = ", after L",
-            Call::Judge => {
-                self.table = if refused {
-                    ", after refused J"
-                } else {
-                    ", after J"
-                };
-                self.set = self.table;
-            }
-            _ => {}
-        }
-    }
+/// Puts the report at the start of the buffer, whose other bytes stay, and gives
+/// its length. A buffer that is too short stays as it is.
+pub fn write_into(lines: &[Figures], buffer: &mut [u8]) -> Result<usize, Refusal> {
+    let length = length(lines.len());
+    let room = buffer.get_mut(..length).ok_or(Refusal::plain(13))?;
+    room.copy_from_slice(&write(lines));
+    Ok(length)
 }
 
-/// The kinds of answers of a sequence of calls.
-pub fn of_calls(input: &[u8]) -> io::Result<Tally> {
-    let mut tally = Tally {
-        wanted: ANSWERS.to_vec(),
-        ..Tally::default()
-    };
-    let mut origin = Origin::FIRST;
-    let whole = calls::each(input, |call, answer, kept| {
-        let refused = refused(answer);
-        let kind = match call {
-            Call::Lend(length) => room(*length, kept.table.length()),
-            Call::Read(_) if refused.is_none() => listed(kept.set.flows.len()),
-            _ => kind(call, refused.is_some()),
-        };
-        tally.add(refused.unwrap_or(0), &format!("{kind}{}", origin.of(call)));
-        origin.step(call, refused.is_some());
-        Ok(())
-    })?;
-    if !whole {
-        tally.add(0, "bad call");
-    }
-    Ok(tally)
+/// The line of a flow. RULES, tables.
+pub fn ask(lines: &[Figures], number: i64) -> Result<Figures, Refusal> {
+    let line = lines.iter().find(|l| l.number == number);
+    line.copied().ok_or(Refusal::plain(11))
 }
 
-/// A lent buffer beside the plan's length.
-fn room(lent: usize, length: usize) -> &'static str {
-    match lent {
-        0 => "lent, no byte",
-        _ if lent + 1 == length => "lent, one byte short",
-        _ if lent < length => "lent, shorter",
-        _ if lent == length => "lent, exact length",
-        _ => "lent, bytes left over",
+/// What `report` prints. RULES, programs.
+pub fn text(report: &[u8]) -> String {
+    match read(report) {
+        Ok(lines) => judge::lines_text(&lines),
+        Err(refusal) => format!("{refusal}\n"),
     }
-}
-
-/// A set that was read, by its flows.
-fn listed(flows: usize) -> &'static str {
-    match flows {
-        0 => "read, no flow",
-        FLOWS => "read, sixteen flows",
-        _ => "read, some flows",
-    }
-}
-
-/// The name of a call, refused or not.
-fn kind(call: &Call, refused: bool) -> &'static str {
-    let (asked, done) = match call {
-        Call::Fresh(_) => ("fresh", "fresh"),
-        Call::Admit(_) => ("admit", "admitted"),
-        Call::Withdraw(_) => ("withdraw", "withdrawn"),
-        Call::Ask(_) => ("ask", "asked"),
-        Call::Print => ("print", "printed"),
-        Call::Write | Call::Lend(_) => ("write", "written"),
-        Call::Read(_) => ("read", "read"),
-        Call::WriteSet => ("write set", "set written"),
-        Call::Judge => ("judge", "judged"),
-    };
-    if refused {
-        asked
-    } else {
-        done
-    }
-}
-
-fn refused(answer: &str) -> Option<i64> {
-    let rest = answer.strip_prefix("refused ")?;
-    rest.split(' ').next()?.parse().ok()
 }
 
 #[cfg(test)]
 mod tests {
     use super::*;
-    use crate::{make_calls, make_frames};
 
-    const NOTHING: [String; 0] = [];
+    fn line(number: i64, bound: i64, jitter: i64, busy: i64) -> Figures {
+        Figures {
+            number,
+            bound,
+            jitter,
+            busy,
+        }
+    }
 
+    fn refused(report: &[u8]) -> (i64, usize) {
+        let refusal = read(report).unwrap_err();
+        assert_eq!(refusal.flow, 0);
+        (refusal.number, refusal.place)
+    }
+
+    /// A report of these lines, whatever they are.
+    fn of(lines: &[Figures]) -> (i64, usize) {
+        refused(&write(lines))
+    }
+
+    fn sixteen() -> Vec<Figures> {
+        (240..=255)
+            .map(|n| line(n, 65_535, 65_534, 65_535))
+            .collect()
+    }
+
+    /// The table of RULES, the report.
     #[test]
-    fn every_answer_to_a_plan_comes_up() {
-        let corpus = make_frames::make(2_000, 1);
-        assert_eq!(of_frames(&corpus).missing(), NOTHING);
-        assert_eq!(make_frames::make(2_000, 1), corpus);
-        assert_ne!(make_frames::make(2_000, 2), corpus);
+    fn the_rules_rows() {
+        assert_eq!(read(&[0x10, 0, 0x1F]), Ok(vec![]));
+        let rows = [0x10, 2, 0x11, 1, 0, 0, 0, 0, 0, 5, 0xFF];
+        assert_eq!(refused(&rows), (3, 2));
+        assert_eq!(refused(&[0x10, 1, 0x1F]), (12, 2));
+        assert_eq!(refused(&[0x10, 17]), (12, 0));
+        assert_eq!(refused(&[0x10, 17, 0x1F]), (12, 0));
+        let row = [0x10, 1, 0x11, 1, 0, 7, 0, 4, 0, 3, 0x1F, 0];
+        assert_eq!(read(&row[..11]), Ok(vec![line(1, 7, 4, 3)]));
+        assert_eq!(refused(&row), (12, 11));
     }
 
     #[test]
-    fn every_answer_to_a_call_comes_up() {
-        let calls = make_calls::make(2_000, 1);
-        assert_eq!(of_calls(&calls).unwrap().missing(), NOTHING);
-        assert_eq!(make_calls::make(2_000, 1), calls);
-        assert_ne!(make_calls::make(2_000, 2), calls);
+    fn reports_go_and_come_back() {
+        for lines in [vec![], vec![line(1, 1, 0, 1)], sixteen()] {
+            let bytes = write(&lines);
+            assert_eq!(bytes.len(), length(lines.len()));
+            assert_eq!(read(&bytes), Ok(lines));
+        }
+        assert_eq!(LONGEST, 131);
     }
 
     #[test]
-    fn a_missing_answer_is_named() {
-        let tally = of_frames(&[]);
-        assert_eq!(tally.missing().len(), PLACES.len());
-        assert!(tally
-            .text()
-            .contains("missing: accepted; refused 1 links; refused 2 first flow;"));
+    fn each_cut_is_refused_at_its_record() {
+        let bytes = write(&[line(1, 7, 4, 3), line(2, 8, 3, 8)]);
+        let places: Vec<(i64, usize)> = (0..bytes.len()).map(|n| refused(&bytes[..n])).collect();
+        let wanted = [[0; 2].as_slice(), &[2; 8], &[10; 8], &[18]].concat();
+        let wanted: Vec<(i64, usize)> = wanted.into_iter().map(|p| (12, p)).collect();
+        assert_eq!(places, wanted);
     }
 
     #[test]
-    fn ways_of_12() {
-        let class = |plan: &[u8]| place_class(plan, &plan::read(plan).unwrap_err());
-        assert_eq!(class(&[]), "links, none left");
-        assert_eq!(class(&[2]), "links, wrong place");
-        assert_eq!(class(&[1, 0]), "links, short body");
-        assert_eq!(class(&[1, 0, 1, 0, 1]), "first flow, none left");
-        assert_eq!(class(&[1, 0, 1, 0, 1, 2, 0]), "first flow, short body");
-        assert_eq!(class(&[1, 0, 1, 0, 1, 9]), "first flow, unknown kind");
-        assert_eq!(class(&[1, 0, 1, 0, 1, 0x7F, 0]), "after the end");
+    fn counts_and_lines() {
+        let mut bytes = write(&[line(1, 7, 4, 3), line(2, 8, 3, 8)]);
+        for (announced, wanted) in [(0, 2), (1, 10), (3, 18), (16, 18), (17, 0), (255, 0)] {
+            bytes[1] = announced;
+            assert_eq!(refused(&bytes), (12, wanted), "{announced}");
+        }
+        let mut more = sixteen();
+        more.insert(0, line(1, 7, 4, 3));
+        let mut bytes = write(&more);
+        assert_eq!(refused(&bytes), (12, 0));
+        bytes[1] = 16;
+        assert_eq!(refused(&bytes), (12, 130));
+    }
+
+    #[test]
+    fn numbers_rise() {
+        assert_eq!(of(&[line(0, 7, 4, 3)]), (12, 2));
+        assert_eq!(of(&[line(2, 7, 4, 3), line(0, 7, 4, 3)]), (12, 10));
+        assert_eq!(of(&[line(2, 7, 4, 3), line(2, 7, 4, 3)]), (12, 10));
+        assert_eq!(of(&[line(2, 7, 4, 3), line(1, 7, 4, 3)]), (12, 10));
+        // No number is above 255, but that shows only at the second line.
+        assert_eq!(of(&[line(255, 7, 4, 3), line(1, 7, 4, 3)]), (12, 10));
+    }
+
+    #[test]
+    fn figures_that_no_flow_can_have() {
+        for bad in [(0, 0, 3), (7, 4, 0), (7, 7, 3), (7, 8, 3), (255, 256, 1)] {
+            let bad = line(2, bad.0, bad.1, bad.2);
+            assert_eq!(of(&[bad]), (3, 2));
+            assert_eq!(of(&[line(1, 7, 4, 3), bad]), (3, 10));
+        }
+        for good in [(1, 0, 1), (7, 6, 3), (256, 255, 256), (1, 0, 65_535)] {
+            let good = line(2, good.0, good.1, good.2);
+            assert_eq!(read(&write(&[good])), Ok(vec![good]));
+        }
+    }
+
+    #[test]
+    fn the_first_record_at_fault_decides_and_12_goes_before_3() {
+        let bad = |number| line(number, 0, 0, 3);
+        let good = line(2, 7, 4, 3);
+        assert_eq!(of(&[bad(0)]), (12, 2));
+        assert_eq!(of(&[good, bad(2)]), (12, 10));
+        assert_eq!(of(&[bad(2), bad(2)]), (3, 2));
+        assert_eq!(of(&[line(0, 7, 4, 3), bad(3)]), (12, 2));
+        let mut bytes = write(&[bad(2)]);
+        assert_eq!(refused(&bytes[..9]), (12, 2));
+        assert_eq!(refused(&bytes[..10]), (3, 2));
+        bytes[1] = 0;
+        assert_eq!(refused(&bytes), (12, 2));
+        bytes[1] = 17;
+        assert_eq!(refused(&bytes), (12, 0));
+    }
+
+    #[test]
+    fn asking() {
+        let lines = [line(1, 7, 4, 3), line(255, 8, 3, 8)];
+        assert_eq!(ask(&lines, 255), Ok(lines[1]));
+        for number in [0, 2, 254, 256, 257] {
+            assert_eq!(ask(&lines, number), Err(Refusal::plain(11)));
+        }
+    }
+
+    #[test]
+    fn writing_keeps_the_rest_of_the_buffer() {
+        let lines = [line(1, 7, 4, 3), line(2, 8, 3, 8)];
+        let mut buffer = [9; 24];
+        let short = write_into(&lines, &mut buffer[..18]);
+        assert_eq!(short, Err(Refusal::plain(13)));
+        assert_eq!(buffer, [9; 24]);
+        assert_eq!(write_into(&lines, &mut buffer), Ok(19));
+        assert_eq!(buffer[..19], write(&lines));
+        assert_eq!(buffer[19..], [9; 5]);
+    }
+
+    #[test]
+    fn the_text() {
+        let bytes = write(&[line(1, 7, 4, 3)]);
+        assert_eq!(text(&bytes), "flow bound jitter busy\n1 7 4 3\n");
+        assert_eq!(text(&bytes[..10]), "refused 12 flow 0 at 10\n");
     }
 }
