@@ -5,3 +5,4 @@ pub mod Puts
 pub mod Trips
 pub mod Unread
 pub mod Promises
+pub mod Cases
