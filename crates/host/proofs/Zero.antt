@@ -1,16 +1,11 @@
 -- What 0 says: an accepted plan; a plan that is refused or lacks the flow. Assumes nothing.
 use Prim.Native.Nat.{ℕ, _<_}
-use mathlib.Core.Path.{_≡_, refl, ap, _∙_, subst}
+use mathlib.Core.Path.{_≡_, ap, _∙_, subst}
 use mathlib.Core.Bool.{true, false}
-use mathlib.Core.List.{List, [], _∷_, List·Memᴰ, List·Memᴰ·head, Memᴰ·map}
+use mathlib.Core.List.{List, Memᴰ·map}
 use native.Mathlib.Omega.{arith}
-use lib.ListN.{length}
 use borrow.Author.Tests.{eq-eqb}
-use Rattle.least.specs.Fold.{sumOf}
-use Rattle.rules.specs.Net as net
-use Rattle.rules.specs.Formula.{least}
-use Rattle.rules.specs.Valid.{InRange}
-use Rattle.rules.proofs.Exact.{jitter-exact}
+use Rattle.rules.proofs.Exact.{jitter-below}
 use Rattle.flows.specs.declared.Flow.{Flow}
 use Rattle.flows.specs.declared.Table.{Table}
 use Rattle.flows.specs.Refusals.{numberOf, acceptedBy, flowNamed}
@@ -41,14 +36,6 @@ module _ (b : List ℕ) where
       omega (arith, accepted-place b u h)
 
 -- ---- a flow's bound
-costs-some : (i : net.Flow) → InRange i → 0 < sumOf least (i .path)
-unfolding sumOf
-costs-some i r = go (i .path) (r .nodes) (r .costs)
-  where
-    go : (l : List net.Hop) → 0 < length l → ((k : net.Hop) → List·Memᴰ k l → 0 < k .cost) → 0 < sumOf least l
-    go [] h c = absurd (omega arith)
-    go (k ∷ l) h c = omega (arith, c k (List·Memᴰ·head refl))
-
 made-bound : (t : Table) → Made t → (f : Flow) → Present t f → 0 < boundOf (askedFor t (f .number))
 unfolding boundOf
 made-bound t m f p =
@@ -57,7 +44,7 @@ made-bound t m f p =
     let v = made-valid t m in
     let r = v .flows (flowOf f) (Memᴰ·map flowOf p) in
     let e : boundOf (askedFor t (f .number)) ≡ s .shown .bound = ap boundOf (s .asking) in
-    omega (arith, costs-some (flowOf f) r, jitter-exact (tableNet t) (flowOf f) (v .links) r (g .arrivals) (s .shown .bound) (s .right .bound))
+    omega (arith, jitter-below (tableNet t) (flowOf f) (v .links) r (g .arrivals) (s .shown .bound) (s .right .bound))
 
 module _ (b : List ℕ) (n : ℕ) where
   pub lacks-zero : Unused (planAnswer b .table) n → planBound b n ≡ 0

@@ -127,7 +127,7 @@ pub read-promise : (b : List ℕ) → ((k : ℕ) → Fits w8 (getD b k 0)) → (
 read-promise b f r e = subst (ReportRead b) (sym e) (reads b (bytes-fit b f))
 
 -- ---- asking
-asked-present : {n : ℕ} (ls : List Line) → RisingBy (λ m. m .number) n ls → (l : Line) → List·Memᴰ l ls → askedIn ls (l .number) ≡ Given (l .figures)
+pub asked-present : {n : ℕ} (ls : List Line) → RisingBy (λ m. m .number) n ls → (l : Line) → List·Memᴰ l ls → askedIn ls (l .number) ≡ Given (l .figures)
 unfolding askedIn
 asked-present [] r l m = absurd (List·Memᴰ·not-nil m)
 asked-present (k ∷ ls) (rising-more h r) l m =

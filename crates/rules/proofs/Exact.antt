@@ -132,3 +132,15 @@ jitter-exact N i links r S b p =
       costs-covered N i (r .distinct),
       mul-le-mul-left (length (i .path) - 1) links,
     )
+
+costs-some : (i : Flow) → InRange i → 0 < sumOf least (i .path)
+unfolding sumOf
+costs-some i r = go (i .path) (r .nodes) (r .costs)
+  where
+    go : (l : List Hop) → 0 < length l → ((k : Hop) → List·Memᴰ k l → 0 < k .cost) → 0 < sumOf least l
+    go [] h c = absurd (omega arith)
+    go (k ∷ l) h c = omega (arith, c k (List·Memᴰ·head refl))
+
+-- A flow has a cost, so the jitter is below the bound, and the bound is not 0
+pub jitter-below : (N : Net) (i : Flow) → N .lmin ≤ N .lmax → InRange i → (S : Arrivals) (b : ℕ) → IsBound N i S b → jitterOf N i b < b
+jitter-below N i links r S b p = omega (arith, costs-some i r, jitter-exact N i links r S b p)

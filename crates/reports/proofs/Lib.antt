@@ -1,0 +1,3 @@
+-- The laws of `reports`.
+pub mod Lines
+pub mod Promises

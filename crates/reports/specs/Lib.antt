@@ -1,0 +1,3 @@
+-- The definitions of `reports`.
+pub mod Reports
+pub mod Demands
