@@ -1,4 +1,5 @@
 -- The laws of `host`.
 pub mod Numbers
 pub mod Zero
+pub mod Reports
 pub mod Promises

@@ -1,5 +1,5 @@
 -- Places that fit, flow numbers past 255, and a law for each way out. Assumes nothing.
-use Prim.Native.Nat.{ℕ, _≤_, _<_}
+use Prim.Native.Nat.{ℕ, _≤_, _<_, _^_}
 use mathlib.Core.Path.{_≡_, sym, ap, _∙_, subst}
 use mathlib.Core.List.{List, [], _∷_}
 use native.Mathlib.Omega.{arith}
@@ -14,7 +14,8 @@ use Rattle.flows.specs.declared.Asked.{Asked}
 use Rattle.flows.specs.declared.Asked.the-variants.{Given, Refused}
 use Rattle.flows.specs.declared.Figures.{Figures}
 use Rattle.flows.specs.declared.Refusal.{Refusal}
-use Rattle.flows.specs.Lists.{held}
+use Rattle.flows.specs.Refusals.{refusalOf}
+use Rattle.flows.specs.Lists.{mostFlows, held}
 use Rattle.flows.specs.WellFormed.{Each, each-more, Typed}
 use Rattle.row.specs.declared.Found.{Found}
 use Rattle.row.specs.declared.Found.the-variants.{Nothing}
@@ -22,28 +23,34 @@ use Rattle.row.specs.Rows.{firstOf, placeOf, foundIn}
 use Rattle.records.specs.Bodies.{Bytes}
 use Rattle.records.proofs.RoundTrip.{bytes-fit}
 use Rattle.plan.specs.Reading.{readPlan}
+use Rattle.plan.specs.Writing.{planLength}
 use Rattle.plan.proofs.Unread.{place-inside}
 use Rattle.table.specs.Calls.{askedBy, askedFor}
 use Rattle.table.specs.Made.{Made}
 use Rattle.table.proofs.Kept.{made-right}
 use Rattle.plans.specs.Plans.{refusedPlan, planAnswer}
 use Rattle.plans.proofs.Trips.{judged-place, in-turn, answer-made}
-use Rattle.host.specs.Host.{mostPlace, codeOf, boundOf, boundIn, planCode, planBound}
+use Rattle.host.specs.Host.{codeOf, boundOf, boundIn, planCode, planBound}
 
 -- ---- places
-pub answer-place : (b : List ℕ) → Bytes b → planAnswer b .place ≤ mostPlace
+-- the place of a refusal is within the longest plan, whatever is read
+answer-place : (b : List ℕ) → Bytes b → planAnswer b .place ≤ planLength mostFlows
 unfolding refusedPlan
 answer-place b u =
     in-turn b
-    (λ h e. subst (λ (a : Answer). a .place ≤ mostPlace) (sym e) (omega (arith, judged-place (readPlan b .set))))
-    (λ never e. subst (λ (a : Answer). a .place ≤ mostPlace) (sym e) (place-inside b u .place .1))
+    (λ h e. subst (λ (a : Answer). a .place ≤ planLength mostFlows) (sym e) (omega (arith, judged-place (readPlan b .set))))
+    (λ never e. subst (λ (a : Answer). a .place ≤ planLength mostFlows) (sym e) (place-inside b u .place .1))
 
-pub place-fits : (b : List ℕ) (a : Answer) → ((k : ℕ) → Fits w8 (getD b k 0)) → a ≡ planAnswer b → a .place ≤ mostPlace
-place-fits b a f e = subst (λ (q : Answer). q .place ≤ mostPlace) (sym e) (answer-place b (bytes-fit b f))
+module _ (b : List ℕ) (a : Answer) (x : Refusal) (e : a ≡ planAnswer b) (g : x ≡ refusalOf (a .cause) (a .place)) where
+  refusal-is : x ≡ refusalOf (planAnswer b .cause) (planAnswer b .place)
+  refusal-is = rw e at g
 
-pub coded : (b : List ℕ) (a : Answer) (r : ℕ) → a ≡ planAnswer b → r ≡ codeOf a → r ≡ planCode b
-unfolding planCode
-coded b a r e g = g ∙ ap codeOf e
+  pub plan-fits : ((k : ℕ) → Fits w8 (getD b k 0)) → x .number < 256 → x .flow < 256 → codeOf x < 2 ^ 64
+  plan-fits f n m = let p = answer-place b (bytes-fit b f) in let q = ap (λ (r : Refusal). r .place) refusal-is in omega arith
+
+  pub coded : (r : ℕ) → r ≡ codeOf x → r ≡ planCode b
+  unfolding planCode
+  coded r h = h ∙ ap codeOf refusal-is
 
 -- ---- numbers past 255
 far-place : (fs : List Flow) (n : ℕ) → Each Typed fs → 255 < n → length fs ≤ placeOf n fs

@@ -26,6 +26,7 @@ use Rattle.lines.specs.Reports.{linesIn, askedIn}
 use Rattle.lines.specs.Writing.{reportWritten, reportAfter}
 use Rattle.lines.specs.Demands.{Possible, Listable, InOrder, ReportWritten}
 use Rattle.lines.proofs.Arrays.{lines-of}
+use Rattle.lines.proofs.Promises as lines
 use Rattle.lines.proofs.Promises.{listed-order, asked-present}
 use Rattle.table.specs.Calls.{askedBy, askedFor}
 use Rattle.table.specs.Made.{Made}
@@ -148,3 +149,10 @@ module _ (t : Table) (old : List ℕ) (r : Written) (new : List ℕ) (report : R
     count = ap length (lines-of (tableLines t)) ∙ lines-count (held (t .row)) (t .figures) (long t m);
     asks = λ number. ap (λ (ls : List Line). askedIn ls number) (lines-of (tableLines t)) ∙ asks t m number;
   }
+
+-- what the equations say of a table that calls made
+pub reported : (t : Table) → Made t → (old : List ℕ) → TableReported t old (reportWritten (length old) (length (tableLines t))) (reportAfter (tableLines t) old)
+reported t m old =
+    let e = sym (lines-of (tableLines t)) in
+    write-promise t old _ _ (tableReport t) refl
+    (lines.write-promise (tableReport t) old _ _ (ap (λ (ls : List Line). reportWritten (length old) (length ls)) e) (ap (λ (ls : List Line). reportAfter ls old) e)) m

@@ -3,9 +3,6 @@ use Rattle.host.proofs.Numbers.{given-bound, refused-bound}
 use borrow.Author.Needs.{needs}
 use Rattle.host.proofs.bound_in.Statement.{statement}
 use Rattle.host.proofs.bound_in.Tie as tie
-use Rattle.host.proofs.bound_in.Reads as reads
-use Rattle.host.proofs.bound_in.Lts as lts
-use Rattle.table.proofs.ask.Reads as ask-reads
 
 ask-requires : tie.Need-ask-requires
 ask-requires c κs = search needs

@@ -4,10 +4,6 @@ use Rattle.host.proofs.Promises.{bound-promise}
 use borrow.Author.Needs.{needs}
 use Rattle.host.proofs.kezhuvanam_bound.Statement.{statement}
 use Rattle.host.proofs.kezhuvanam_bound.Tie as tie
-use Rattle.host.proofs.kezhuvanam_bound.Reads as reads
-use Rattle.host.proofs.kezhuvanam_bound.Lts as lts
-use Rattle.host.proofs.bound_in.Reads as bound-in-reads
-use Rattle.plans.proofs.read_plan.Reads as read-plan-reads
 
 returns : tie.Need-returns
 returns c = (search (no-bound, needs), search (bound-promise, no-bound, needs))
