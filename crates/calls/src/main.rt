@@ -1,7 +1,6 @@
-// Answers the calls on standard input: Lmin and Lmax, then A, W, Q, T, P, B, L, S, J or N and what belongs to it, one after the other.
+// Answers the calls on standard input: Lmin and Lmax, then A, W, Q, T, P, B, L, S, J, R, F or N and what belongs to it, one after the other.
 // After P the table is the one that the written plan gives when it is read and judged.
 use flows::Answer;
-use flows::Asked;
 use flows::Table;
 use flows::Written;
 use libc::STDIN_FILENO;
@@ -34,12 +33,7 @@ fn stop(mut kept: Kept) -> Kept {
 }
 
 fn tell(mut kept: Kept, answer: Answer, done: &[u8]) -> Kept {
-    let cause = answer.cause;
-    if flows::accepted(cause) {
-        show::put(done);
-    } else {
-        show::print_refusal(flows::refuse(cause, answer.place));
-    }
+    show::print_done(answer, done);
     let table = answer.table;
     kept.table = table;
     kept
@@ -80,11 +74,7 @@ fn ask_flow(kept: Kept) -> Kept {
     }
     let number = body[0];
     let t = kept.table;
-    let asked = table::ask(t, number);
-    match asked {
-        Asked::Given(g) => show::print_flow(number, g),
-        Asked::Refused(r) => show::print_refusal(r),
-    }
+    show::print_asked(number, table::ask(t, number));
     kept
 }
 
@@ -173,16 +163,41 @@ fn write_set(kept: Kept) -> Kept {
     let mut buffer = [0u8; 550];
     let set = kept.set;
     let written = plan::write(&mut buffer, set);
-    match written {
-        Written::Length(n) => show::print_bytes(&buffer, n),
-        Written::Refused(r) => show::print_refusal(r),
-    }
+    show::print_written(written, &buffer);
     kept
 }
 
 fn judge_set(kept: Kept) -> Kept {
     let set = kept.set;
     tell(kept, plans::judge_set(set), b"judged\n")
+}
+
+// 131 bytes hold the report of any table.
+fn write_report(kept: Kept) -> Kept {
+    let mut buffer = [0u8; 131];
+    let t = kept.table;
+    let written = reports::write_report(&mut buffer, t);
+    show::print_written(written, &buffer);
+    kept
+}
+
+// Reads as many bytes as this memory has, and the report that they list.
+fn read_report(kept: Kept, bytes: &mut [u8]) -> Kept {
+    if !fill(bytes) {
+        return stop(kept);
+    }
+    show::print_report(bytes);
+    kept
+}
+
+fn load_report(kept: Kept) -> Kept {
+    let mut body = [0u8; 2];
+    if !fill(&mut body) {
+        return stop(kept);
+    }
+    let n = join(body[0], body[1]);
+    let mut buffer = io::large_buffer();
+    read_report(kept, &mut buffer[0..n])
 }
 
 fn call(kind: u8, kept: Kept) -> Kept {
@@ -196,6 +211,8 @@ fn call(kind: u8, kept: Kept) -> Kept {
         b'L' => load_set(kept),
         b'S' => write_set(kept),
         b'J' => judge_set(kept),
+        b'R' => write_report(kept),
+        b'F' => load_report(kept),
         b'N' => make_table(kept),
         _ => stop(kept),
     }

@@ -1,9 +1,13 @@
-// What the programs print of plans, tables, bytes and refusals.
+// What the programs print of plans, tables, reports, bytes and refusals.
+use flows::Answer;
+use flows::Asked;
 use flows::Figures;
 use flows::Outcome;
 use flows::Refusal;
 use flows::Table;
+use flows::Written;
 use libc::STDOUT_FILENO;
+use lines::Report;
 use plan::Reading;
 ghost use Prim.Native.Nat.{_<_};
 
@@ -16,7 +20,7 @@ fn put_number(n: u64) {
 }
 
 // A flow's number and its figures.
-pub fn print_flow(number: u8, g: Figures) {
+fn print_flow(number: u8, g: Figures) {
     put_number(number as u64);
     put(b" ");
     put_number(g.bound as u64);
@@ -27,18 +31,23 @@ pub fn print_flow(number: u8, g: Figures) {
     put(b"\n");
 }
 
-// The header, and a line for each flow. RULES, programs.
-pub fn print_table(t: Table) {
+// The header, and the lines of a report. RULES, programs.
+fn print_lines(report: Report) {
     put(b"flow bound jitter busy\n");
-    let row = t.row;
-    let n = row::size(row);
+    let n = lines::size(report);
     let mut k: usize = 0;
     while k < n {
-        let f = row.flows[k];
-        let g = t.figures[k];
-        print_flow(f.number, g);
+        let line = report.lines[k];
+        let figures = line.figures;
+        print_flow(line.number, figures);
         k += 1;
     }
+}
+
+// The lines of its report.
+pub fn print_table(t: Table) {
+    let report = reports::report_of(t);
+    print_lines(report);
 }
 
 pub fn print_refusal(r: Refusal) {
@@ -49,6 +58,24 @@ pub fn print_refusal(r: Refusal) {
     put(b" at ");
     put_number(r.place as u64);
     put(b"\n");
+}
+
+// What a call on a table did, or its refusal.
+pub fn print_done(answer: Answer, done: &[u8]) {
+    let cause = answer.cause;
+    if flows::accepted(cause) {
+        put(done);
+    } else {
+        print_refusal(flows::refuse(cause, answer.place));
+    }
+}
+
+// The figures of the flow that was asked for, or the refusal.
+pub fn print_asked(number: u8, asked: Asked) {
+    match asked {
+        Asked::Given(g) => print_flow(number, g),
+        Asked::Refused(r) => print_refusal(r),
+    }
 }
 
 pub fn print_length(n: usize) {
@@ -81,17 +108,41 @@ pub fn print_bytes(bytes: &[u8], n: usize) {
     put(b"\n");
 }
 
+// The bytes that were written to the start of these, or the refusal.
+pub fn print_written(written: Written, bytes: &[u8]) {
+    match written {
+        Written::Length(n) => print_bytes(bytes, n),
+        Written::Refused(r) => print_refusal(r),
+    }
+}
+
+fn print_outcome(outcome: Outcome) {
+    print_refusal(flows::refuse(flows::cause_in(outcome), flows::place_in(outcome)));
+}
+
 // How many flows were read, or the refusal.
 pub fn print_reading(reading: Reading) {
     let outcome = reading.outcome;
     let Outcome::Read = outcome else {
-        print_refusal(flows::refuse(flows::cause_in(outcome), flows::place_in(outcome)));
+        print_outcome(outcome);
         return;
     };
     let set = reading.set;
     let row = set.row;
     put(b"read ");
     print_length(row::size(row));
+}
+
+// The lines of a report that is read, or the refusal.
+pub fn print_report(bytes: &[u8]) {
+    let reading = lines::read(bytes);
+    let outcome = reading.outcome;
+    let Outcome::Read = outcome else {
+        print_outcome(outcome);
+        return;
+    };
+    let report = reading.report;
+    print_lines(report);
 }
 
 // The table of an accepted plan, or the refusal.

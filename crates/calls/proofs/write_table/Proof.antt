@@ -8,7 +8,7 @@ use lib.ListN.{length}
 use borrow.Author.Needs.{needs}
 use borrow.Author.Tests.{ltb-false}
 use Rattle.flows.specs.declared.Written.the-variants.{Length}
-use Rattle.plan.specs.Writing.{planLength, writtenInto}
+use Rattle.records.specs.Rows.{sizeWritten}
 use Rattle.calls.proofs.write_table.Statement.{statement}
 use Rattle.calls.proofs.write_table.Tie as tie
 use Rattle.calls.proofs.write_table.Reads as reads
@@ -17,10 +17,10 @@ use Rattle.calls.proofs.read_table.Reads as read-table-reads
 use Rattle.plans.proofs.write_plan.Reads as write-plan-reads
 use Rattle.show.proofs.print_refusal.Reads as print-refusal-reads
 
-within : (space m n : ℕ) (short : Bool) → ltb space (planLength m) ≡ short → Length n ≡ writtenInto space m → n ≤ space
-unfolding writtenInto
-within space m n true p e = let q = rw p at e in let z : _≡_ {A = ℕ} 0 1 = cc in omega arith
-within space m n false p e = let q = rw p at e in let z : n ≡ planLength m = cc in omega (arith, ltb-false space (planLength m) p)
+within : (space size n : ℕ) (short : Bool) → ltb space size ≡ short → Length n ≡ sizeWritten space size → n ≤ space
+unfolding sizeWritten
+within space size n true p e = let q = rw p at e in let z : _≡_ {A = ℕ} 0 1 = cc in omega arith
+within space size n false p e = let q = rw p at e in let z : n ≡ size = cc in omega (arith, ltb-false space size p)
 
 slice-aggregate-write-plan : tie.Need-slice-aggregate-write-plan
 slice-aggregate-write-plan c = search needs
