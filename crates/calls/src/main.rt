@@ -8,11 +8,6 @@ use plan::FlowSet;
 ghost use Prim.Native.Nat.{_<_, _≤_};
 ghost use lib.ListN.{length};
 
-// A buffer that B lends has at most LENT bytes, each UNTOUCHED.
-const LENT: usize = 900;
-
-const UNTOUCHED: u8 = 0xa5;
-
 // What is kept between calls, and whether there are more.
 struct Kept {
     more: bool,
@@ -25,7 +20,7 @@ fn fill(memory: &mut [u8]) -> bool {
     io::read_full(STDIN_FILENO, memory) == memory.len()
 }
 
-// Of an unknown call, one that the input's end cuts short, or a buffer of more than LENT bytes.
+// Of an unknown call, one that the input's end cuts short, or a buffer longer than any that is lent.
 fn stop(mut kept: Kept) -> Kept {
     show::put(b"bad call\n");
     kept.more = false;
@@ -78,12 +73,6 @@ fn ask_flow(kept: Kept) -> Kept {
     kept
 }
 
-fn print_table(kept: Kept) -> Kept {
-    let t = kept.table;
-    show::print_table(t);
-    kept
-}
-
 // Prints the first n bytes, and goes on with the table of the plan in them.
 fn read_table(kept: Kept, bytes: &[u8], n: usize) -> Kept
     requires { ⌜ n ≤ length (now bytes) ⌝ }
@@ -106,16 +95,6 @@ fn write_table(kept: Kept) -> Kept {
     }
 }
 
-// What writing into lent bytes answers, and then the bytes.
-fn write_into(bytes: &mut [u8], t: Table) {
-    let written = plans::write_plan(bytes, t);
-    match written {
-        Written::Length(n) => show::print_length(n),
-        Written::Refused(r) => show::print_refusal(r),
-    }
-    show::print_bytes(bytes, bytes.len());
-}
-
 fn join(high: u8, low: u8) -> usize
     ensures { λ r. ⌜ r < 65536 ⌝ }
 {
@@ -128,19 +107,22 @@ fn lend_buffer(kept: Kept) -> Kept {
         return stop(kept);
     }
     let n = join(body[0], body[1]);
-    if n > LENT {
+    if n > show::LENT {
         return stop(kept);
     }
-    let mut buffer = [UNTOUCHED; LENT];
     let t = kept.table;
-    write_into(&mut buffer[..n], t);
+    show::print_lent(t, n);
     kept
 }
 
-// Reads as many bytes as this memory has, and the set that they list.
-fn read_set(mut kept: Kept, bytes: &mut [u8]) -> Kept {
+// Reads as many bytes as this memory has: a report, which is shown, or a plan, of which the set is kept.
+fn read_bytes(mut kept: Kept, bytes: &mut [u8], report: bool) -> Kept {
     if !fill(bytes) {
         return stop(kept);
+    }
+    if report {
+        show::print_report(bytes);
+        return kept;
     }
     let reading = plan::read(bytes);
     show::print_reading(reading);
@@ -149,22 +131,14 @@ fn read_set(mut kept: Kept, bytes: &mut [u8]) -> Kept {
     kept
 }
 
-fn load_set(kept: Kept) -> Kept {
+fn load(kept: Kept, report: bool) -> Kept {
     let mut body = [0u8; 2];
     if !fill(&mut body) {
         return stop(kept);
     }
     let n = join(body[0], body[1]);
     let mut buffer = io::large_buffer();
-    read_set(kept, &mut buffer[0..n])
-}
-
-fn write_set(kept: Kept) -> Kept {
-    let mut buffer = [0u8; 550];
-    let set = kept.set;
-    let written = plan::write(&mut buffer, set);
-    show::print_written(written, &buffer);
-    kept
+    read_bytes(kept, &mut buffer[0..n], report)
 }
 
 fn judge_set(kept: Kept) -> Kept {
@@ -172,32 +146,16 @@ fn judge_set(kept: Kept) -> Kept {
     tell(kept, plans::judge_set(set), b"judged\n")
 }
 
-// 131 bytes hold the report of any table.
-fn write_report(kept: Kept) -> Kept {
-    let mut buffer = [0u8; 131];
+// T, S and R, which change nothing.
+fn print_kept(kind: u8, kept: Kept) -> Kept {
     let t = kept.table;
-    let written = reports::write_report(&mut buffer, t);
-    show::print_written(written, &buffer);
-    kept
-}
-
-// Reads as many bytes as this memory has, and the report that they list.
-fn read_report(kept: Kept, bytes: &mut [u8]) -> Kept {
-    if !fill(bytes) {
-        return stop(kept);
+    let set = kept.set;
+    match kind {
+        b'T' => show::print_table(t),
+        b'S' => show::print_set(set),
+        _ => show::print_table_report(t),
     }
-    show::print_report(bytes);
     kept
-}
-
-fn load_report(kept: Kept) -> Kept {
-    let mut body = [0u8; 2];
-    if !fill(&mut body) {
-        return stop(kept);
-    }
-    let n = join(body[0], body[1]);
-    let mut buffer = io::large_buffer();
-    read_report(kept, &mut buffer[0..n])
 }
 
 fn call(kind: u8, kept: Kept) -> Kept {
@@ -205,14 +163,12 @@ fn call(kind: u8, kept: Kept) -> Kept {
         b'A' => admit_flow(kept),
         b'W' => withdraw_flow(kept),
         b'Q' => ask_flow(kept),
-        b'T' => print_table(kept),
+        b'T' | b'S' | b'R' => print_kept(kind, kept),
         b'P' => write_table(kept),
         b'B' => lend_buffer(kept),
-        b'L' => load_set(kept),
-        b'S' => write_set(kept),
+        b'L' => load(kept, false),
         b'J' => judge_set(kept),
-        b'R' => write_report(kept),
-        b'F' => load_report(kept),
+        b'F' => load(kept, true),
         b'N' => make_table(kept),
         _ => stop(kept),
     }

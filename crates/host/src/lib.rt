@@ -121,7 +121,7 @@ pub extern "C" fn kezhuvanam_report_figure(report: &[u8], number: u64, figure: u
     ensures { λ r. ⌜ r ≡ reportFigure (now (report .entry)) number figure ⌝ }
     ensures { λ r. ⌜ Shows (now (report .entry)) number figure r ⌝ }
 {
-    if 255 < number {
+    if number > 255 {
         return 0;
     }
     let reading = lines::read(report);

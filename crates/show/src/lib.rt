@@ -8,8 +8,14 @@ use flows::Table;
 use flows::Written;
 use libc::STDOUT_FILENO;
 use lines::Report;
+use plan::FlowSet;
 use plan::Reading;
-ghost use Prim.Native.Nat.{_<_};
+ghost use Prim.Native.Nat.{_<_, _≤_};
+
+// A lent buffer has at most LENT bytes.
+pub const LENT: usize = 900;
+
+const UNTOUCHED: u8 = 0xa5;
 
 pub fn put(text: &[u8]) {
     io::write_all(STDOUT_FILENO, text);
@@ -109,11 +115,43 @@ pub fn print_bytes(bytes: &[u8], n: usize) {
 }
 
 // The bytes that were written to the start of these, or the refusal.
-pub fn print_written(written: Written, bytes: &[u8]) {
+fn print_written(written: Written, bytes: &[u8]) {
     match written {
         Written::Length(n) => print_bytes(bytes, n),
         Written::Refused(r) => print_refusal(r),
     }
+}
+
+// The plan of a set, in hexadecimal; 550 bytes hold any.
+pub fn print_set(set: FlowSet) {
+    let mut buffer = [0u8; 550];
+    let written = plan::write(&mut buffer, set);
+    print_written(written, &buffer);
+}
+
+// The report of a table, in hexadecimal; 131 bytes hold any.
+pub fn print_table_report(t: Table) {
+    let mut buffer = [0u8; 131];
+    let written = reports::write_report(&mut buffer, t);
+    print_written(written, &buffer);
+}
+
+// What writing a table's plan into these bytes answers, and then the bytes.
+fn print_into(bytes: &mut [u8], t: Table) {
+    let written = plans::write_plan(bytes, t);
+    match written {
+        Written::Length(n) => print_length(n),
+        Written::Refused(r) => print_refusal(r),
+    }
+    print_bytes(bytes, bytes.len());
+}
+
+// The same for a buffer of n bytes, each UNTOUCHED.
+pub fn print_lent(t: Table, n: usize)
+    requires { ⌜ n ≤ 900 ⌝ }
+{
+    let mut buffer = [UNTOUCHED; LENT];
+    print_into(&mut buffer[0..n], t);
 }
 
 fn print_outcome(outcome: Outcome) {
