@@ -1,11 +1,12 @@
-/* Kezhuvanam: judges plans of flows in a hall's network. The rules are docs/RULES.md.
+/* Kezhuvanam: judges plans of flows in a hall's network, and passes their figures on as reports. The rules are docs/RULES.md.
 
-   Link with libhost.a (x86-64), which needs memcpy and memset and nothing else. Both functions read the len bytes at plan and nothing else,
-   keep nothing between calls, allocate nothing, and may be called from several threads. plan may be NULL if len is 0.
+   Link with libhost.a (x86-64), which needs memcpy and memset and nothing else. A function reads the len bytes at plan or report and nothing
+   else, keeps nothing between calls, allocates nothing, and may be called from several threads. plan or report may be NULL if len is 0. Only
+   kezhuvanam_report_write writes, and only into the buffer that it is handed.
 
-   Stack: a call takes 424 KiB of stack, whatever the plan. A thread with less dies.
+   Stack: a call takes 424 KiB of stack, whatever the plan. A thread with less dies. The calls on a report alone take less than 16 KiB.
 
-   Time: a call ends on any plan, but how long it takes hangs on the plan's numbers and not on its length, and nothing stops it before. This plan
+   Time: a call on a report ends at once. A call on a plan ends on any plan, but how long it takes hangs on the plan's numbers and not on its length, and nothing stops it before. This plan
    of 210 bytes takes minutes: six flows of one priority, Lmin = Lmax = 1, J = 0, D = 65,535, every cost 1 but the last flow's, which is 2; three
    flows with T 3, 3 and 4 on seven nodes in the orders 2 6 5 7 4 1 3, 6 1 5 2 7 3 4 and 7 5 2 3 1 6 4; three with T 13, 157 and 65,535 on node 1
    alone. So who must stay responsive calls on a thread of its own. */
@@ -47,6 +48,32 @@ uint64_t kezhuvanam_judge(const uint8_t *plan, size_t len);
 /* The worst-case end-to-end response bound, in ticks, of the flow of that number; 0 exactly if the plan is refused or has no
    such flow. Any number may be asked for. */
 uint64_t kezhuvanam_bound(const uint8_t *plan, size_t len, uint64_t number);
+
+/* A report is a table's figures as bytes, for whoever shows them without the plan: at most 131 of them, 3 + 8 for each flow.
+   RULES, the report, has its layout. A later library may write kinds of records that this one does not have; it then refuses the report. */
+#define KEZHUVANAM_REPORT 131
+
+/* Writes the report of the plan's table to the beginning of buffer, which has size bytes and does not overlap the plan; it may be NULL if size is 0.
+
+     answer % 256 == 0     it is written: answer / 256 bytes, from 3 to 131. What is behind them in buffer is as it was
+     otherwise             nothing is written, buffer is as it was, and answer is a refusal, read as that of kezhuvanam_judge. It is the
+                           plan's, or, if the plan is accepted, 13: the buffer is too short */
+uint64_t kezhuvanam_report_write(const uint8_t *plan, size_t len, uint8_t *buffer, size_t size);
+
+/* 0 if the report is in order. Otherwise why not, as kezhuvanam_judge says it; the flow is 0.
+
+   3   at the record at that place: a bound or a busy length is 0, or a jitter is not less than its bound
+   12  report malformed, or with a record of a kind that this library does not have */
+uint64_t kezhuvanam_report_check(const uint8_t *report, size_t len);
+
+/* For the last argument of kezhuvanam_report_figure. */
+#define KEZHUVANAM_BOUND 1
+#define KEZHUVANAM_JITTER 2
+#define KEZHUVANAM_BUSY 3
+
+/* One figure of the flow of that number, in ticks, plus 1: a jitter of 0 is given as 1. 0 exactly if the report is refused, has no such flow, or
+   there is no such figure. Any two numbers may be asked for. */
+uint64_t kezhuvanam_report_figure(const uint8_t *report, size_t len, uint64_t number, uint64_t figure);
 
 #ifdef __cplusplus
 }

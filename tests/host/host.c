@@ -1,4 +1,4 @@
-/* The host's two functions on plans whose answers docs/RULES.md gives, called on a thread of KEZHUVANAM_STACK bytes. Every expected number is
+/* The host's functions on plans and reports whose answers docs/RULES.md gives, called on a thread of KEZHUVANAM_STACK bytes. Every expected number is
    written out here by hand. tests/host/run --stack: how much stack a call takes on one byte, on these plans and on one that takes long. */
 #define _POSIX_C_SOURCE 200809L
 #include <stddef.h>
@@ -79,6 +79,37 @@ static plan byte_after_end = {LINKS(1, 1), SIXTEEN, END, END};
 /* Records before the set: a deadline that flow 1 cannot keep, in records that are all in order, and before one that is not. */
 static plan late = {LINKS(1, 1), ALONE(1, 1, 10, 0, 2, 3), ALONE(2, 1, 20, 0, 60, 5), END};
 static plan late_and_period_0 = {LINKS(1, 1), ALONE(1, 1, 10, 0, 2, 3), ALONE(2, 1, 0, 0, 60, 5), END};
+
+/* RULES, the report. A line is number, bound, jitter, busy length. */
+#define LINE(number, bound, jitter, busy) 0x11, number, TWO(bound), TWO(jitter), TWO(busy)
+#define CLOSE 0x1F
+
+static plan report1 = {0x10, 0, CLOSE};
+static plan report2 = {0x10, 1, LINE(1, 9, 0, 4), CLOSE};
+static plan report4 = {0x10, 2, LINE(1, 7, 4, 3), LINE(2, 8, 3, 8), CLOSE};
+static plan report5 = {0x10, 2, LINE(1, 15, 12, 3), LINE(2, 11, 6, 8), CLOSE};
+static plan report10 = {0x10, 1, LINE(1, 65535, 65534, 1), CLOSE};
+static plan report255 = {0x10, 1, LINE(255, 3, 0, 3), CLOSE};
+
+#define SMALL_LINE(number) LINE(number, 16, 15, 16)
+static plan report16 = {0x10, 16, SMALL_LINE(1), SMALL_LINE(2), SMALL_LINE(3), SMALL_LINE(4), SMALL_LINE(5), SMALL_LINE(6), SMALL_LINE(7),
+                        SMALL_LINE(8), SMALL_LINE(9), SMALL_LINE(10), SMALL_LINE(11), SMALL_LINE(12), SMALL_LINE(13), SMALL_LINE(14),
+                        SMALL_LINE(15), SMALL_LINE(16), CLOSE};
+static plan report16_more = {0x10, 16, SMALL_LINE(1), SMALL_LINE(2), SMALL_LINE(3), SMALL_LINE(4), SMALL_LINE(5), SMALL_LINE(6), SMALL_LINE(7),
+                             SMALL_LINE(8), SMALL_LINE(9), SMALL_LINE(10), SMALL_LINE(11), SMALL_LINE(12), SMALL_LINE(13), SMALL_LINE(14),
+                             SMALL_LINE(15), SMALL_LINE(16), CLOSE, CLOSE};
+
+/* The first line's kind byte is at 2, the second's at 10. */
+static plan bound_0 = {0x10, 2, LINE(1, 0, 0, 5), 0xFF};
+static plan busy_0 = {0x10, 2, LINE(1, 7, 4, 3), LINE(2, 8, 3, 0), CLOSE};
+static plan jitter_is_bound = {0x10, 1, LINE(1, 7, 7, 3), CLOSE};
+static plan line_missing = {0x10, 1, CLOSE};
+static plan line_too_many = {0x10, 1, LINE(1, 7, 4, 3), LINE(2, 8, 3, 8), CLOSE};
+static plan count_17 = {0x10, 17, CLOSE};
+static plan line_of_0 = {0x10, 1, LINE(0, 7, 4, 3), CLOSE};
+static plan lines_not_rising = {0x10, 2, LINE(1, 7, 4, 3), LINE(1, 0, 0, 0), CLOSE};
+static plan later_kind = {0x10, 2, LINE(1, 7, 4, 3), 0x12, 0, CLOSE};
+static plan after_close = {0x10, 1, LINE(1, 7, 4, 3), CLOSE, 0};
 
 #define WHOLE(p) p, sizeof(p)
 
@@ -174,7 +205,109 @@ static const struct {
     {"empty plan", NULL, 0, 1, 0},
 };
 
+/* RULES, host calls: 256 * length and the report, or the refusal and a buffer as it was. A buffer of room bytes is lent. */
+static const struct {
+    const char *name;
+    const uint8_t *plan;
+    size_t len;
+    size_t room;
+    uint64_t answer;
+    const uint8_t *report;
+} written[] = {
+    {"case 1", WHOLE(case1), 131, 256 * 3, report1},
+    {"case 1", WHOLE(case1), 3, 256 * 3, report1},
+    {"case 1", WHOLE(case1), 2, 13, NULL},
+    {"case 2", WHOLE(case2), 131, 256 * 11, report2},
+    {"case 4", WHOLE(case4), 19, 256 * 19, report4},
+    {"case 4", WHOLE(case4), 20, 256 * 19, report4},
+    {"case 4", WHOLE(case4), 18, 13, NULL},
+    {"case 4", WHOLE(case4), 0, 13, NULL},
+    {"case 5", WHOLE(case5), 131, 256 * 19, report5},
+    {"case 10", WHOLE(case10), 131, 256 * 11, report10},
+    {"flow 255", WHOLE(last_number), 131, 256 * 11, report255},
+    {"sixteen flows", WHOLE(sixteen), KEZHUVANAM_REPORT, 256 * 131, report16},
+    {"sixteen flows", WHOLE(sixteen), 130, 13, NULL},
+
+    /* Refused plans: 13 comes last. */
+    {"case 9", WHOLE(case9), 131, 8 + 256 * 1, NULL},
+    {"case 11, D 7", WHOLE(case11_10), 0, 10 + 256 * 2, NULL},
+    {"second flow's period 0", WHOLE(period_0), 131, 3 + 65536 * 39, NULL},
+    {"empty plan", NULL, 0, 0, 12, NULL},
+    {"a report for a plan", WHOLE(report4), 131, 12, NULL},
+};
+
+static const struct {
+    const char *name;
+    const uint8_t *report;
+    size_t len;
+    uint64_t code;
+} checked[] = {
+    {"case 1", WHOLE(report1), 0},
+    {"case 2", WHOLE(report2), 0},
+    {"case 4", WHOLE(report4), 0},
+    {"case 10", WHOLE(report10), 0},
+    {"sixteen flows", WHOLE(report16), 0},
+    {"bound 0", WHOLE(bound_0), 3 + 65536 * 2},
+    {"busy length 0", WHOLE(busy_0), 3 + 65536 * 10},
+    {"jitter not below the bound", WHOLE(jitter_is_bound), 3 + 65536 * 2},
+    {"a line missing", WHOLE(line_missing), 12 + 65536 * 2},
+    {"a line too many", WHOLE(line_too_many), 12 + 65536 * 10},
+    {"seventeen flows", WHOLE(count_17), 12},
+    {"seventeen flows, no more", count_17, 2, 12},
+    {"number 0", WHOLE(line_of_0), 12 + 65536 * 2},
+    {"numbers not rising, figures 0", WHOLE(lines_not_rising), 12 + 65536 * 10},
+    {"a kind of a later time", WHOLE(later_kind), 12 + 65536 * 10},
+    {"byte after the end", WHOLE(after_close), 12 + 65536 * 11},
+    {"byte after the longest", WHOLE(report16_more), 12 + 65536 * 131},
+    {"case 4 without its end", report4, 18, 12 + 65536 * 18},
+    {"case 4, second body short", report4, 17, 12 + 65536 * 10},
+    {"case 4, count cut off", report4, 1, 12},
+    {"a plan for a report", WHOLE(case4), 12},
+    {"empty report", NULL, 0, 12},
+};
+
+/* RULES, host calls: a figure and 1, or 0. */
+static const struct {
+    const char *name;
+    const uint8_t *report;
+    size_t len;
+    uint64_t number;
+    uint64_t figure;
+    uint64_t answer;
+} figured[] = {
+    {"case 5", WHOLE(report5), 1, KEZHUVANAM_BOUND, 16},
+    {"case 5", WHOLE(report5), 1, KEZHUVANAM_JITTER, 13},
+    {"case 5", WHOLE(report5), 1, KEZHUVANAM_BUSY, 4},
+    {"case 5", WHOLE(report5), 2, KEZHUVANAM_BOUND, 12},
+    {"case 5", WHOLE(report5), 2, KEZHUVANAM_JITTER, 7},
+    {"case 5", WHOLE(report5), 2, KEZHUVANAM_BUSY, 9},
+    {"case 2, a jitter of 0", WHOLE(report2), 1, KEZHUVANAM_JITTER, 1},
+    {"case 10", WHOLE(report10), 1, KEZHUVANAM_BOUND, 65536},
+    {"flow 255", WHOLE(report255), 255, KEZHUVANAM_BUSY, 4},
+    {"sixteen flows", WHOLE(report16), 16, KEZHUVANAM_JITTER, 16},
+
+    /* No such figure, no such flow, a refused report. */
+    {"case 5", WHOLE(report5), 1, 0, 0},
+    {"case 5", WHOLE(report5), 1, 4, 0},
+    {"case 5", WHOLE(report5), 1, 257, 0},
+    {"case 5", WHOLE(report5), 1, UINT64_C(4294967297), 0},
+    {"case 5", WHOLE(report5), 1, UINT64_MAX, 0},
+    {"case 5", WHOLE(report5), 3, 1, 0},
+    {"case 5", WHOLE(report5), 0, 1, 0},
+    {"case 5", WHOLE(report5), 256, 1, 0},
+    {"case 5", WHOLE(report5), 257, 1, 0},
+    {"case 5", WHOLE(report5), UINT64_C(4294967297), 1, 0},
+    {"case 5", WHOLE(report5), UINT64_MAX, 1, 0},
+    {"case 1", WHOLE(report1), 1, 1, 0},
+    {"busy length 0, after flow 1", WHOLE(busy_0), 1, 1, 0},
+    {"byte after the end", WHOLE(after_close), 1, 1, 0},
+    {"a plan for a report", WHOLE(case5), 1, 1, 0},
+    {"empty report", NULL, 0, 0, 1, 0},
+};
+
 #define COUNT(rows) (sizeof(rows) / sizeof(rows)[0])
+
+#define UNTOUCHED 0x5A
 
 /* Differences found. */
 static int judge_all(void) {
@@ -203,6 +336,57 @@ static int bound_all(void) {
     return differences;
 }
 
+/* Bytes of a lent buffer that are not what they should be: those of the report, and the others as they were. */
+static int bytes_wrong(const uint8_t *buffer, size_t size, const uint8_t *report, size_t length) {
+    int wrong = 0;
+    for (size_t at = 0; at < size; at++) wrong += buffer[at] != (at < length ? report[at] : UNTOUCHED);
+    return wrong;
+}
+
+/* The buffer has bytes on both sides that nobody lent. */
+static int write_all(void) {
+    int differences = 0;
+    for (size_t k = 0; k < COUNT(written); k++) {
+        uint8_t around[8 + KEZHUVANAM_REPORT + 8];
+        size_t length = written[k].report == NULL ? 0 : (size_t)(written[k].answer / 256);
+        for (size_t at = 0; at < sizeof(around); at++) around[at] = UNTOUCHED;
+        uint64_t answer = kezhuvanam_report_write(written[k].plan, written[k].len, around + 8, written[k].room);
+        if (answer != written[k].answer || bytes_wrong(around, 8, NULL, 0) != 0 ||
+            bytes_wrong(around + 8, sizeof(around) - 8, written[k].report, length) != 0) {
+            printf("%s, into %lu bytes: %llu, expected %llu, or other bytes\n", written[k].name, (unsigned long)written[k].room,
+                   (unsigned long long)answer, (unsigned long long)written[k].answer);
+            differences++;
+        }
+    }
+    return differences;
+}
+
+static int check_all(void) {
+    int differences = 0;
+    for (size_t k = 0; k < COUNT(checked); k++) {
+        uint64_t code = kezhuvanam_report_check(checked[k].report, checked[k].len);
+        if (code != checked[k].code) {
+            printf("report of %s: checked %llu, expected %llu\n", checked[k].name, (unsigned long long)code,
+                   (unsigned long long)checked[k].code);
+            differences++;
+        }
+    }
+    return differences;
+}
+
+static int figure_all(void) {
+    int differences = 0;
+    for (size_t k = 0; k < COUNT(figured); k++) {
+        uint64_t answer = kezhuvanam_report_figure(figured[k].report, figured[k].len, figured[k].number, figured[k].figure);
+        if (answer != figured[k].answer) {
+            printf("report of %s, flow %llu, figure %llu: %llu, expected %llu\n", figured[k].name, (unsigned long long)figured[k].number,
+                   (unsigned long long)figured[k].figure, (unsigned long long)answer, (unsigned long long)figured[k].answer);
+            differences++;
+        }
+    }
+    return differences;
+}
+
 /* Sixteen flows over the same eight nodes, three priorities, busy for 58,400 ticks. */
 #define EIGHT(x) x, x, x, x, x, x, x, x
 #define BUSY(number, priority, period, cost) \
@@ -215,7 +399,9 @@ static int differences;
 
 static void on_one_byte(void) { differences += kezhuvanam_judge(no_links, sizeof(no_links)) != 12; }
 
-static void on_all(void) { differences += judge_all() + bound_all(); }
+static void on_all(void) { differences += judge_all() + bound_all() + write_all() + check_all() + figure_all(); }
+
+static void on_reports(void) { differences += check_all() + figure_all(); }
 
 static void on_hall(void) { differences += kezhuvanam_judge(WHOLE(hall)) != 0; }
 
@@ -276,10 +462,11 @@ int main(int words, char **word) {
     (void)word;
     if (words > 1) {
         printf("one byte: %lu bytes of stack\n", (unsigned long)taken_by(on_one_byte));
-        printf("every plan of this test: %lu\n", (unsigned long)taken);
+        printf("every plan and report of this test: %lu\n", (unsigned long)taken);
+        printf("its reports, checked and asked: %lu\n", (unsigned long)taken_by(on_reports));
         printf("sixteen flows of eight nodes, busy for 58,400 ticks: %lu\n", (unsigned long)taken_by(on_hall));
     }
     printf("host: %u calls on a thread of %u KiB, of which a call takes %u, %d differences\n",
-           (unsigned)(COUNT(judged) + COUNT(bounded)), kib(KEZHUVANAM_STACK), kib(taken), differences);
+           (unsigned)(COUNT(judged) + COUNT(bounded) + COUNT(written) + COUNT(checked) + COUNT(figured)), kib(KEZHUVANAM_STACK), kib(taken), differences);
     return differences != 0 || !right;
 }
