@@ -1,4 +1,4 @@
-/* Half of the mutations keep a plan's records in form, so that what comes after the reading of records is reached. */
+/* Half of the mutations keep a plan's or a report's records in form, so that what comes after the reading of records is reached. */
 #include <stddef.h>
 #include <stdint.h>
 #include <string.h>
@@ -239,10 +239,83 @@ static void mend(struct plan *p) {
     }
 }
 
+/* Reports. */
+
+#define LINE 8
+
+struct report {
+    unsigned said, count;
+    struct line {
+        unsigned number, bound, jitter, busy;
+    } lines[FLOWS];
+};
+
+/* Whatever the bytes are: lines are taken as far as they go. */
+static void read_report(const uint8_t *data, size_t size, struct report *r) {
+    memset(r, 0, sizeof *r);
+    for (size_t at = 2; at + LINE <= size && data[at] == 0x11 && r->count < FLOWS; at += LINE) {
+        r->lines[r->count++] = (struct line){data[at + 1], two(data + at + 2), two(data + at + 4), two(data + at + 6)};
+    }
+    r->said = size > 1 ? data[1] : 0;
+}
+
+static size_t write_report(uint8_t *data, const struct report *r) {
+    uint8_t *at = put(put(data, 0x10), r->said);
+    for (unsigned k = 0; k < r->count; k++) {
+        const struct line *l = &r->lines[k];
+        at = put_two(put_two(put_two(put(put(at, 0x11), l->number), l->bound), l->jitter), l->busy);
+    }
+    return (size_t)(put(at, 0x1F) - data);
+}
+
+static void edit_report(struct report *r) {
+    if (r->count == 0 || (dice(4) == 0 && r->count < FLOWS)) {
+        r->lines[r->count++] = (struct line){any(8), any(16), any(16), any(16)};
+        return;
+    }
+    struct line *l = &r->lines[dice(r->count)];
+    switch (dice(6)) {
+    case 0: l->number = near(l->number); break;
+    case 1: l->bound = any(16); break;
+    case 2: l->jitter = near(l->bound); break;
+    case 3: l->busy = any(16); break;
+    case 4: r->count--; break;
+    default: r->said = near(r->count); break;
+    }
+}
+
+/* In order, but for numbers that find no room below 256. */
+static void mend_report(struct report *r) {
+    unsigned last = 0;
+    for (unsigned k = 0; k < r->count; k++) {
+        struct line *l = &r->lines[k];
+        l->number = last = clamp(l->number, last + 1, 255);
+        l->bound = clamp(l->bound, 1, 65535);
+        l->jitter = clamp(l->jitter, 0, l->bound - 1);
+        l->busy = clamp(l->busy, 1, 65535);
+    }
+    r->said = r->count;
+}
+
+static size_t mutate_report(uint8_t *data, size_t size) {
+    struct report r;
+    read_report(data, size, &r);
+    for (unsigned edits = 1 + dice(4); edits > 0; edits--) {
+        edit_report(&r);
+    }
+    if (dice(4)) {
+        mend_report(&r);
+    }
+    return write_report(data, &r);
+}
+
 size_t LLVMFuzzerCustomMutator(uint8_t *data, size_t size, size_t max, unsigned seed) {
     state = seed;
     if (dice(2) || max < LINKS + FLOWS * RECORD + 1) {
         return LLVMFuzzerMutate(data, size, max);
+    }
+    if (size > 0 && data[0] == 0x10) {
+        return mutate_report(data, size);
     }
     struct plan p;
     read_plan(data, size, &p);

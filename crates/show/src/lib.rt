@@ -10,7 +10,7 @@ use libc::STDOUT_FILENO;
 use lines::Report;
 use plan::FlowSet;
 use plan::Reading;
-ghost use Prim.Native.Nat.{_<_, _≤_};
+ghost use Prim.Native.Nat.{_<_};
 
 // A lent buffer has at most LENT bytes.
 pub const LENT: usize = 900;
@@ -146,11 +146,13 @@ fn print_into(bytes: &mut [u8], t: Table) {
     print_bytes(bytes, bytes.len());
 }
 
-// The same for a buffer of n bytes, each UNTOUCHED.
-pub fn print_lent(t: Table, n: usize)
-    requires { ⌜ n ≤ 900 ⌝ }
-{
+// The same for a buffer of n bytes, or of LENT if n is more, each UNTOUCHED.
+pub fn print_lent(t: Table, n: usize) {
     let mut buffer = [UNTOUCHED; LENT];
+    if LENT < n {
+        print_into(&mut buffer, t);
+        return;
+    }
     print_into(&mut buffer[0..n], t);
 }
 
