@@ -456,14 +456,22 @@ static int as_the_header_says(size_t taken) {
     return 1;
 }
 
+/* The header says that calls on a report take no more. */
+static int reports_take_little(size_t taken) {
+    if (taken != 0 && kib(taken) <= 4) return 1;
+    printf("host: a call on a report takes %u KiB of stack\n", kib(taken));
+    return 0;
+}
+
 int main(int words, char **word) {
     size_t taken = taken_by(on_all);
-    int right = as_the_header_says(taken);
+    size_t by_reports = taken_by(on_reports);
+    int right = as_the_header_says(taken) && reports_take_little(by_reports);
     (void)word;
     if (words > 1) {
         printf("one byte: %lu bytes of stack\n", (unsigned long)taken_by(on_one_byte));
         printf("every plan and report of this test: %lu\n", (unsigned long)taken);
-        printf("its reports, checked and asked: %lu\n", (unsigned long)taken_by(on_reports));
+        printf("its reports, checked and asked: %lu\n", (unsigned long)by_reports);
         printf("sixteen flows of eight nodes, busy for 58,400 ticks: %lu\n", (unsigned long)taken_by(on_hall));
     }
     printf("host: %u calls on a thread of %u KiB, of which a call takes %u, %d differences\n",

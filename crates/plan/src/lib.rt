@@ -1,4 +1,4 @@
-// A plan read and written: its records, one after the other, as the plan reader sees them.
+// A plan read and written: its records, one after the other, as the reader sees them.
 use flows::Cause;
 use flows::FLOWS;
 use flows::Flow;
