@@ -1,13 +1,14 @@
 -- The table of kinds, a law for each way out, and what a kind says of the bytes at its place.
 use Prim.Native.Nat.{ℕ, _+_, _-_, _≤_, _<_}
 use mathlib.Core.Path.{_≡_, refl, sym, ap, _∙_, subst}
-use mathlib.Core.Bool.{Bool, true, false, cond}
+use mathlib.Core.Bool.{Bool, true, false, cond, not}
 use mathlib.Core.List.{List, [], _∷_}
 use mathlib.Core.Logic.{_⊎_, inl, inr}
 use native.Mathlib.Omega.{arith}
 use lib.ListN.{length, getD}
 use lib.Dec.{T, leb, ltb, eqb}
 use borrow.Author.Tests.{eq-eqb, ne-eqb, lt-ltb, le-ltb, le-leb, lt-leb, eqb-true, eqb-false, ltb-false, leb-false}
+use mir.Val.{hasKey}
 use types.Run.{OneOf, miss}
 use denote.Enum.Declared.{tagOf}
 use Rattle.records.specs.Kinds.{linksKind, flowKind, endKind, countKind, lineKind, closeKind}
@@ -93,17 +94,22 @@ abbrev others : ℕ → List ℕ → List ℕ
 others n [] = []
 others n (m ∷ l) = cond (eqb n m) (others n l) (m ∷ others n l)
 
+left-out : (n : ℕ) (l : List ℕ) → T (not (hasKey (others n l) n))
+left-out n [] = tt
+left-out n (m ∷ l) = go (eqb n m) refl (left-out n l)
+  where
+    go : (p : Bool) → eqb n m ≡ p → T (not (hasKey (others n l) n)) → T (not (hasKey (cond p (others n l) (m ∷ others n l)) n))
+    go true e h = h
+    go false e h = rw (ne-eqb m n (λ q. eqb-false n m e (sym q))) h
+
+abbrev keys : List ℕ
+keys = 0 ∷ 1 ∷ 2 ∷ 3 ∷ 4 ∷ 5 ∷ 6 ∷ []
+
 abbrev pub Other : Kind → Kind → Type 0
-Other w k = OneOf (others (tagOf the-type w) (0 ∷ 1 ∷ 2 ∷ 3 ∷ 4 ∷ 5 ∷ 6 ∷ [])) (tagOf the-type k)
+Other w k = OneOf (others (tagOf the-type w) keys) (tagOf the-type k)
 
 pub other-kind : (w k : Kind) → Other w k → k ≡ w → ⊥
-other-kind OfLinks k o e = miss (1 ∷ 2 ∷ 3 ∷ 4 ∷ 5 ∷ 6 ∷ []) 0 tt (subst (Other OfLinks) e o)
-other-kind OfFlow k o e = miss (0 ∷ 2 ∷ 3 ∷ 4 ∷ 5 ∷ 6 ∷ []) 1 tt (subst (Other OfFlow) e o)
-other-kind OfEnd k o e = miss (0 ∷ 1 ∷ 3 ∷ 4 ∷ 5 ∷ 6 ∷ []) 2 tt (subst (Other OfEnd) e o)
-other-kind OfCount k o e = miss (0 ∷ 1 ∷ 2 ∷ 4 ∷ 5 ∷ 6 ∷ []) 3 tt (subst (Other OfCount) e o)
-other-kind OfLine k o e = miss (0 ∷ 1 ∷ 2 ∷ 3 ∷ 5 ∷ 6 ∷ []) 4 tt (subst (Other OfLine) e o)
-other-kind OfClose k o e = miss (0 ∷ 1 ∷ 2 ∷ 3 ∷ 4 ∷ 6 ∷ []) 5 tt (subst (Other OfClose) e o)
-other-kind OfNone k o e = miss (0 ∷ 1 ∷ 2 ∷ 3 ∷ 4 ∷ 5 ∷ []) 6 tt (subst (Other OfNone) e o)
+other-kind w k o e = miss (others (tagOf the-type w) keys) (tagOf the-type w) (left-out (tagOf the-type w) keys) (subst (Other w) e o)
 
 -- what follows from the kind that a caller saw
 module _ {A : Type 0} (b : List ℕ) (at : ℕ) (w : Kind) (x y : A) (k : Kind) (e : k ≡ kindAt b at) where
