@@ -3,3 +3,4 @@ pub mod Numbers
 pub mod Zero
 pub mod Reports
 pub mod Promises
+pub mod ReportPromises

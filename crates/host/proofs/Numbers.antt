@@ -1,5 +1,5 @@
--- Places that fit, flow numbers past 255, and a law for each way out. Assumes nothing.
-use Prim.Native.Nat.{ℕ, _≤_, _<_, _^_}
+-- Numbers that fit, flow numbers past 255, a law for each way out, and the parts of a refusal's number. Assumes nothing.
+use Prim.Native.Nat.{ℕ, _+_, _*_, _/_, _%_, _≤_, _<_, _^_}
 use mathlib.Core.Path.{_≡_, sym, ap, _∙_, subst}
 use mathlib.Core.List.{List, [], _∷_}
 use native.Mathlib.Omega.{arith}
@@ -85,3 +85,23 @@ module _ (t : Table) (n : ℕ) (a : Asked) (e : a ≡ askedFor t n) where
 pub bounded : (b : List ℕ) (a : Answer) (n m r : ℕ) → a ≡ planAnswer b → m ≡ n → r ≡ boundIn a m → r ≡ planBound b n
 unfolding planBound
 bounded b a n m r e g h = h ∙ ap (boundIn a) g ∙ ap (λ (q : Answer). boundIn q n) e
+
+-- ---- number, flow and place told apart
+module _ (n f p : ℕ) (h : n < 256) (g : f < 256) where
+  low : (n + 256 * f + 65536 * p) % 256 ≡ n
+  low = omega arith
+
+  middle : (n + 256 * f + 65536 * p) / 256 % 256 ≡ f
+  middle = omega arith
+
+  high : (n + 256 * f + 65536 * p) / 65536 ≡ p
+  high = omega arith
+
+-- the parts of a refusal's number
+pub record Parts (x : Refusal) (r : ℕ) : Type 0 where
+  pub number : r % 256 ≡ x .number
+  pub flow : r / 256 % 256 ≡ x .flow
+  pub place : r / 65536 ≡ x .place
+
+pub parts : (x : Refusal) → (x .number < 256) × (x .flow < 256) → Parts x (codeOf x)
+parts x (n, m) = record { number = low _ _ _ n m; flow = middle _ _ _ n m; place = high _ _ _ n m }

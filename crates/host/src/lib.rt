@@ -94,7 +94,7 @@ pub extern "C" fn kezhuvanam_report_check(report: &[u8]) -> u64
     code(flows::refuse(flows::cause_in(outcome), flows::place_in(outcome)))
 }
 
-// The figure that figure is the number of, and 1 more.
+// One figure, by its number, and 1 more.
 fn figure_of(g: Figures, figure: u64) -> u64
     ensures { λ r. ⌜ r ≡ figureOf g figure ⌝ }
 {

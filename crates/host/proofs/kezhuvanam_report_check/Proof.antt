@@ -1,6 +1,6 @@
 -- `host::kezhuvanam_report_check` meets its contract.
 use Rattle.host.proofs.Reports.{report-refusal, report-fits, report-coded}
-use Rattle.host.proofs.Promises.{check-promise}
+use Rattle.host.proofs.ReportPromises.{check-promise}
 use borrow.Author.Needs.{needs}
 use Rattle.host.proofs.kezhuvanam_report_check.Statement.{statement}
 use Rattle.host.proofs.kezhuvanam_report_check.Tie as tie

@@ -1,6 +1,6 @@
 -- `host::kezhuvanam_report_figure` meets its contract.
 use Rattle.host.proofs.Reports.{far-figure, figured}
-use Rattle.host.proofs.Promises.{figure-promise}
+use Rattle.host.proofs.ReportPromises.{figure-promise}
 use borrow.Author.Needs.{needs}
 use Rattle.host.proofs.kezhuvanam_report_figure.Statement.{statement}
 use Rattle.host.proofs.kezhuvanam_report_figure.Tie as tie

@@ -1,7 +1,7 @@
 -- `host::kezhuvanam_report_write` meets its contract.
 use Rattle.host.proofs.Numbers.{plan-fits, coded}
 use Rattle.host.proofs.Reports.{refused-code, refused-buffer, written-fits, written-coded, written-buffer}
-use Rattle.host.proofs.Promises.{write-promise}
+use Rattle.host.proofs.ReportPromises.{write-promise}
 use borrow.Author.Needs.{needs}
 use Rattle.host.proofs.kezhuvanam_report_write.Statement.{statement}
 use Rattle.host.proofs.kezhuvanam_report_write.Tie as tie
