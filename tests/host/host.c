@@ -343,14 +343,15 @@ static int bytes_wrong(const uint8_t *buffer, size_t size, const uint8_t *report
     return wrong;
 }
 
-/* The buffer has bytes on both sides that nobody lent. */
+/* The buffer has bytes on both sides that nobody lent; one of no bytes is NULL. */
 static int write_all(void) {
     int differences = 0;
     for (size_t k = 0; k < COUNT(written); k++) {
         uint8_t around[8 + KEZHUVANAM_REPORT + 8];
         size_t length = written[k].report == NULL ? 0 : (size_t)(written[k].answer / 256);
         for (size_t at = 0; at < sizeof(around); at++) around[at] = UNTOUCHED;
-        uint64_t answer = kezhuvanam_report_write(written[k].plan, written[k].len, around + 8, written[k].room);
+        uint8_t *buffer = written[k].room == 0 ? NULL : around + 8;
+        uint64_t answer = kezhuvanam_report_write(written[k].plan, written[k].len, buffer, written[k].room);
         if (answer != written[k].answer || bytes_wrong(around, 8, NULL, 0) != 0 ||
             bytes_wrong(around + 8, sizeof(around) - 8, written[k].report, length) != 0) {
             printf("%s, into %lu bytes: %llu, expected %llu, or other bytes\n", written[k].name, (unsigned long)written[k].room,

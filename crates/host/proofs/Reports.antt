@@ -12,7 +12,6 @@ use borrow.Author.Tests.{ne-eqb, not-true, not-false}
 use Rattle.flows.specs.declared.Answer.{Answer}
 use Rattle.flows.specs.declared.Asked.{Asked}
 use Rattle.flows.specs.declared.Asked.the-variants.{Given}
-use Rattle.flows.specs.declared.Asked.the-variants as asked
 use Rattle.flows.specs.declared.Cause.{Cause}
 use Rattle.flows.specs.declared.Cause.the-variants.{ShortBuffer}
 use Rattle.flows.specs.declared.Figures.{Figures}
@@ -60,9 +59,6 @@ module _ (g : Figures) (figure : ℕ) where
 module _ (a : Asked) (figure : ℕ) where
   pub given-figure : (g : Figures) (r : ℕ) → a ≡ Given g → r ≡ figureOf g figure → r ≡ figureIn a figure
   given-figure g r e h = rw e h
-
-  pub no-figure : (x : Refusal) → a ≡ asked.Refused x → 0 ≡ figureIn a figure
-  no-figure x e = rw e
 
 -- ---- what was written
 module _ (w : Written) (h : writtenCode w < 2 ^ 64) where
