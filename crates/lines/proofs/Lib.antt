@@ -4,5 +4,6 @@ pub mod Steps
 pub mod Puts
 pub mod Trips
 pub mod Unread
+pub mod Orders
 pub mod Promises
 pub mod Cases

@@ -1,3 +1,4 @@
 -- The laws of `reports`.
 pub mod Lines
+pub mod Made
 pub mod Promises
