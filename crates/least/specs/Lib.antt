@@ -5,4 +5,5 @@ pub mod Fold
 pub mod Fixed
 pub mod Vector
 pub mod Instants
+pub mod Steps
 pub mod Starts

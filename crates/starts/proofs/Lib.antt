@@ -3,5 +3,6 @@ pub mod Terms
 pub mod Sums
 pub mod Climb
 pub mod Nodes
+pub mod Steps
 pub mod Tries
 pub mod Only

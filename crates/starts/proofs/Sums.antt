@@ -17,7 +17,7 @@ use Rattle.least.proofs.Fixed.{least-unique, least-ext, under-zero, under-ext}
 use Rattle.least.proofs.Starts.{starts-within}
 use Rattle.starts.specs.Sheet.{entrySize, blockSize, hereSlot, instantSlot, values, termOf, sheetSum, seen, sums, Back, Fit, StartsOf, prior}
 
-term-le : (e : List ℕ) (v v′ : ℕ → ℕ) (k : ℕ) → v (values e k % 16) ≤ v′ (values e k % 16) → termOf e v k ≤ termOf e v′ k
+pub term-le : (e : List ℕ) (v v′ : ℕ → ℕ) (k : ℕ) → v (values e k % 16) ≤ v′ (values e k % 16) → termOf e v k ≤ termOf e v′ k
 unfolding termOf
 term-le e v v′ k h = mul-le-mul-right (values e (k + 4)) (count-rises (values e (k + 2)) (values e (k + 3)) (omega arith))
 

@@ -3,9 +3,11 @@ ghost use mathlib.Core.Path.{_≡_};
 ghost use Prim.Native.Nat.{_+_, _<_, _≤_};
 ghost use Rattle.least.specs.Count.{count};
 ghost use Rattle.least.specs.Fixed.{Under};
+ghost use Rattle.least.specs.Steps.{Step};
 ghost use Rattle.starts.specs.Sheet.{mostFlows, mostNodes, mostTime, entrySize, sheetSize, instantSlot, values, termOf, sheetSum, sums, Small, Read, Fit};
 ghost use Rattle.starts.specs.Begins.{BeginIs, BeginFits};
 ghost use Rattle.starts.specs.Runs.{Within, InstantIs, ResponsesAre};
+ghost use Rattle.starts.specs.Steps.{EntryStep, NodeStep, SheetStep};
 
 // An entry of the sheet: where the count looks, what is added, what is taken off, period, weight.
 pub const ENTRY: usize = 5;
@@ -141,13 +143,76 @@ fn instant(e: &[u64; SHEET], run: Run, n: usize, m: usize, u: u64) -> Run
     }
 }
 
+// The first instant after u at which count(u + a − b, T) steps up; the end, if there is none before it.
+fn step_after(a: u64, b: u64, t: u64, u: u64, end: u64) -> u64
+    requires { ⌜ (u < end) × (end < 16777216) × (a < 16777216) × (t < 16777216) ⌝ }
+    ensures { λ r. ⌜ Step (λ v. count (v + a) b t) u end r ⌝ }
+{
+    if u + a < b {
+        return least::lesser(b - a, end);
+    }
+    if t == 0 {
+        return end;
+    }
+    least::lesser(u + (t - (u + a - b) % t), end)
+}
+
+// The same of the entry at k, which steps only if its count looks at the instant.
+fn entry_step(e: &[u64; SHEET], k: usize, u: u64, end: u64) -> u64
+    requires { ⌜ (k + entrySize ≤ sheetSize) × (u < end) × (end < 16777216) × Small (now e) ⌝ }
+    ensures { λ r. ⌜ EntryStep (now (e .entry)) k u end r ⌝ }
+{
+    let weight = e[k + 4];
+    if weight == 0 {
+        return end;
+    }
+    let look = (e[k] % 16) as usize;
+    if look != INSTANT {
+        return end;
+    }
+    let plus = e[k + 1];
+    let less = e[k + 2];
+    let period = e[k + 3];
+    step_after(plus, less, period, u, end)
+}
+
+// Of the sum at node p: each entry is asked for a step before the next one so far.
+fn node_step(e: &[u64; SHEET], p: usize, n: usize, u: u64, end: u64) -> u64
+    requires { ⌜ (p < mostNodes) × (n ≤ mostFlows) × (u < end) × (end < 16777216) × Small (now e) ⌝ }
+    ensures { λ r. ⌜ NodeStep (now (e .entry)) n p u end r ⌝ }
+{
+    let at = p * BLOCK;
+    let mut next = end;
+    let mut j: usize = 0;
+    while j < n {
+        next = entry_step(e, at + 2 + j * ENTRY, u, next);
+        j += 1;
+    }
+    next
+}
+
+// Of the sums at all of the first m nodes: a starting time carries a step on to the nodes behind it.
+fn next_step(e: &[u64; SHEET], n: usize, m: usize, u: u64, end: u64) -> u64
+    requires { ⌜ (m ≤ mostNodes) × (n ≤ mostFlows) × (u < end) × (end < 16777216) × Small (now e) ⌝ }
+    ensures { λ r. ⌜ SheetStep (now (e .entry)) n m u end r ⌝ }
+{
+    let mut next = end;
+    let mut p: usize = 0;
+    while p < m {
+        next = node_step(e, p, n, u, next);
+        p += 1;
+    }
+    next
+}
+
 // The response bounds at the nodes of a path, and zeros behind; past the horizon, zeros alone.
 pub struct Bounds {
     pub best: [u64; NODES],
     pub past: bool,
 }
 
-// The response bounds at the first m nodes, over every instant below the busy length.
+// The response bounds at the first m nodes, over every instant below the busy length. Tried are the first and those at which a sum steps up:
+// between them no starting time changes, and W + C − t falls.
 pub fn responses(e: &[u64; SHEET], n: usize, m: usize, busy: u64) -> Bounds
     requires { ⌜ (m ≤ mostNodes) × (n ≤ mostFlows) × (busy ≤ mostTime) × Small (now e) ⌝ }
     ensures { λ r. ⌜ ResponsesAre (now (e .entry)) n m busy (r .past) (r .best) ⌝ }
@@ -164,7 +229,7 @@ pub fn responses(e: &[u64; SHEET], n: usize, m: usize, busy: u64) -> Bounds
             let best = [0u64; NODES];
             return Bounds { best, past: true };
         }
-        u += 1;
+        u = next_step(e, n, m, u, busy);
     }
     let best = run.best;
     Bounds { best, past: false }

@@ -1,5 +1,5 @@
 -- `starts::responses` meets its contract.
-use Rattle.starts.proofs.Tries.{Tried, tried-none, tried-past, tried-more, tried-all}
+use Rattle.starts.proofs.Tries.{Tried, tried-none, tried-past, tried-next, tried-all}
 use Prim.Native.Nat.{_-_}
 use borrow.Author.Needs.{needs}
 use native.Mathlib.Omega.{arith}
@@ -8,6 +8,7 @@ use Rattle.starts.proofs.responses.Tie as tie
 use Rattle.starts.proofs.responses.Reads as reads
 use Rattle.starts.proofs.responses.Lts as lts
 use Rattle.starts.proofs.instant.Reads as instant-reads
+use Rattle.starts.proofs.next_step.Reads as next-step-reads
 
 abbrev Inv-loop : tie.InvT-loop
 Inv-loop e n m busy run₀ u₀ run u = Tried e n m busy (run .slots) (run .best) (run .past) u
@@ -24,14 +25,14 @@ instant-requires c κs = let p = c .before .before .pre in let t = c .before .lo
 returns : tie.Need-returns Inv-loop μ-loop
 returns c = search tried-past
 
-add-u : tie.Need-add-u Inv-loop μ-loop
-add-u c = search needs
+next-step-requires : tie.Need-next-step-requires Inv-loop μ-loop
+next-step-requires c κs = search needs
 
 loop-less : tie.Need-loop-less Inv-loop μ-loop
-loop-less c = search needs
+loop-less c = omega (arith, (c .next-step .ensures) (λ k. 0) 0 .later)
 
 loop-again : tie.Need-loop-again Inv-loop μ-loop
-loop-again c = search tried-more
+loop-again c = search (tried-next, c .next-step .ensures)
 
 returns-2 : tie.Need-returns-2 Inv-loop μ-loop
 returns-2 c = search tried-all
@@ -45,7 +46,7 @@ responses-spec =
     loop-holds
     instant-requires
     returns
-    add-u
+    next-step-requires
     loop-less
     loop-again
     returns-2)

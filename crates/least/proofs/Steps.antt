@@ -1,0 +1,111 @@
+-- The next step of a count, of a product and of a sum, and what the steps between leave out. Assumes nothing.
+use mathlib.Core.Path.{_≡_, ap, _∙_}
+use mathlib.Core.Logic.{inl, inr}
+use Prim.Native.Nat.{ℕ, zero, suc, _+_, _-_, _*_, _/_, _%_, _≤_, _<_, min}
+use native.Mathlib.Omega.{arith}
+use native.Mathlib.Nat.{mul-le-mul-right, mod-lt, div-add-mod', div-zero}
+use native.Mathlib.Numerals.{add-one}
+use Rattle.least.specs.Count.{count}
+use Rattle.least.specs.Fold.{sumTo}
+use Rattle.least.specs.Instants.{bestTo}
+use Rattle.least.specs.Steps.{Step}
+use Rattle.least.proofs.Count.{le-or-lt, count-in, count-out, count-le, le-count, count-rises}
+
+pub step-one : {φ : ℕ → ℕ} {u end r s : ℕ} → Step φ u end r → Step φ u end s → r ≡ s
+step-one {φ} {u} {end} {r} {s} p q = elim (le-or-lt r s) [
+  | inl h ↦ elim (le-or-lt s r) [
+    | inl g ↦ omega arith
+    | inr g ↦ absurd (omega (arith, p .later, p .up (omega (arith, q .most)), q .still r (omega (arith, p .later)) g))
+  ]
+  | inr h ↦ absurd (omega (arith, q .later, q .up (omega (arith, p .most)), p .still s (omega (arith, q .later)) h))
+]
+
+pub step-ext : {φ ψ : ℕ → ℕ} {u end r : ℕ} → ((v : ℕ) → φ v ≡ ψ v) → Step φ u end r → Step ψ u end r
+step-ext {φ} {ψ} {u} {end} {r} e p = record {
+  later = p .later;
+  most = p .most;
+  still = λ v a b. omega (arith, e v, e u, p .still v a b);
+  up = λ h. omega (arith, e u, e r, p .up h);
+}
+
+-- what never changes has no step
+pub step-none : {φ : ℕ → ℕ} {u end : ℕ} → ((v : ℕ) → u ≤ v → φ v ≡ φ u) → u < end → Step φ u end end
+step-none {φ} {u} {end} h q = record { later = q; most = omega arith; still = λ v a b. h v a; up = λ z. absurd (omega arith) }
+
+-- of a sum the next step is the first of both, the second sought no further than the first
+pub step-both : {φ ψ : ℕ → ℕ} {u end r s : ℕ} → ((v : ℕ) → u ≤ v → ψ u ≤ ψ v) → Step φ u end r → Step ψ u r s → Step (λ v. φ v + ψ v) u end s
+step-both {φ} {ψ} {u} {end} {r} {s} rises p q = record {
+  later = q .later;
+  most = omega (arith, p .most, q .most);
+  still = λ v a b. omega (arith, p .still v a (omega (arith, q .most)), q .still v a b);
+  up = λ h. elim (le-or-lt r s) [
+    | inl z ↦ (let e : r ≡ s = omega (arith, q .most) in omega (arith, p .up (omega (arith, e)), ap φ e, rises s (omega (arith, q .later))))
+    | inr z ↦ omega (arith, q .up z, p .still s (omega (arith, q .later)) z)
+  ];
+}
+
+-- the sum over one number more
+pub step-more : (f : ℕ → ℕ → ℕ) (u end j r s : ℕ) → ((v : ℕ) → u ≤ v → f u j ≤ f v j) → Step (λ v. sumTo j (f v)) u end r → Step (λ v. f v j) u r s → Step (λ v. sumTo (j + 1) (f v)) u end s
+unfolding sumTo
+step-more f u end j r s rises p q = rw (add-one j) (step-both rises p q)
+
+pub step-above : {φ : ℕ → ℕ} {u end r : ℕ} (c : ℕ) → Step φ u end r → Step (λ v. c + φ v) u end r
+step-above {φ} {u} {end} {r} c p = record {
+  later = p .later;
+  most = p .most;
+  still = λ v a b. ap (λ x. c + x) (p .still v a b);
+  up = λ z. omega (arith, p .up z);
+}
+
+pub step-times : {φ : ℕ → ℕ} {u end r : ℕ} (w : ℕ) → 0 < w → Step φ u end r → Step (λ v. φ v * w) u end r
+step-times {φ} {u} {end} {r} w h p = record {
+  later = p .later;
+  most = p .most;
+  still = λ v a b. ap (λ c. c * w) (p .still v a b);
+  up = λ z. omega (arith, mul-le-mul-right w (p .up z));
+}
+
+-- the ways to the next step of count(v + a − b, T)
+module _ (a b t u end : ℕ) (on : u < end) where
+  pub count-first : u + a < b → Step (λ v. count (v + a) b t) u end (min (b - a) end)
+  count-first h = record {
+    later = omega arith;
+    most = omega arith;
+    still = λ v l m. omega (arith, count-out (v + a) b t (omega arith), count-out (u + a) b t h);
+    up = λ z. omega (arith, count-out (u + a) b t h, count-in (min (b - a) end + a) b t (omega arith));
+  }
+
+  pub count-ever : b ≤ u + a → t ≡ 0 → Step (λ v. count (v + a) b t) u end end
+  count-ever h z = step-none (λ v l. omega (arith, count-in (v + a) b t (omega arith), count-in (u + a) b t h, flat (v + a - b), flat (u + a - b))) on
+    where
+      flat : (x : ℕ) → x / t ≡ 0
+      flat x = ap (λ s. x / s) z ∙ div-zero x
+
+  module _ (h : b ≤ u + a) (p : 0 < t) where
+    rest : (u + a - b) % t < t
+    rest = mod-lt (u + a - b) {m = t} p
+
+    pub count-next : Step (λ v. count (v + a) b t) u end (min (u + (t - (u + a - b) % t)) end)
+    count-next = record {
+      later = omega (arith, rest);
+      most = omega arith;
+      still = λ v l m. omega (
+        arith,
+        count-rises {a = u + a} {a′ = v + a} b t (omega arith),
+        count-le (v + a) b t (1 + (u + a - b) / t) p (omega (arith, div-add-mod' (u + a - b) t)),
+        count-in (u + a) b t h,
+      );
+      up = λ z. elim (le-or-lt (count (min (u + (t - (u + a - b) % t)) end + a) b t) (1 + (u + a - b) / t)) [
+        | inl q ↦ absurd (omega (arith, le-count (min (u + (t - (u + a - b) % t)) end + a) b t (1 + (u + a - b) / t) p q, div-add-mod' (u + a - b) t, rest))
+        | inr q ↦ omega (arith, count-in (u + a) b t h)
+      ];
+    }
+
+-- what stays while the instant goes on adds nothing to the best
+pub best-still : (φ : ℕ → ℕ) (u r : ℕ) → u < r → ((t : ℕ) → u ≤ t → t < r → φ t ≡ φ u) → bestTo φ r ≡ bestTo φ (suc u)
+unfolding bestTo
+best-still φ u zero h s = absurd (omega arith)
+best-still φ u (suc r) h s = elim (le-or-lt r u) [
+  | inl q ↦ (let z : r ≡ u = omega arith in ap (λ k. bestTo φ (suc k)) z)
+  | inr q ↦ omega (arith, best-still φ u r q (λ t a b. s t a (omega arith)), s r (omega arith) (omega arith))
+]
