@@ -93,7 +93,7 @@ struct Row {
     answers: BTreeMap<u64, u32>,
     steps: Counts,
     ticks: Counts,
-    every: Duration,
+    every: Option<Duration>,
     times: Vec<Duration>,
 }
 
@@ -110,7 +110,7 @@ impl Row {
             assert_eq!(steps.verdict, ticks.verdict);
             assert_eq!(steps.counts.turns, ticks.counts.turns);
             self.ticks.add(&ticks.counts);
-            self.every += ticks.time;
+            self.every = Some(self.every.unwrap_or_default() + ticks.time);
         }
         self.steps.add(&steps.counts);
         *self.answers.entry(answer).or_default() += 1;
@@ -136,13 +136,13 @@ impl Row {
         let (ticks, steps) = (&self.ticks, &self.steps);
         let [proved, plain, prepared] = [0, 1, 2].map(|k| self.times[k]);
         print!(
-            "{name} | {} | {} | {} | {} | {proved:.2?} | {plain:.2?} | {:.2} | {prepared:.2?} | {:.2?}",
+            "{name} | {} | {} | {} | {} | {proved:.2?} | {plain:.2?} | {:.2} | {prepared:.2?} | {}",
             self.answers(),
             steps.turns,
             fewer(ticks.instants, steps.instants),
             fewer(ticks.sums, steps.sums),
             ratio(proved, plain),
-            self.every,
+            self.every.map_or("-".into(), |time| format!("{time:.2?}")),
         );
         if let Some(&before) = self.times.get(3) {
             print!(" | {before:.2?} | {:.2}", ratio(before, proved));

@@ -208,7 +208,7 @@ impl Set {
                     load += b.div_ceil(j.period) * slowest(i, j);
                 }
             }
-            let next = load.max(1).min(HORIZON + 1);
+            let next = load.clamp(1, HORIZON + 1);
             if next <= b {
                 return b;
             }
@@ -448,8 +448,8 @@ fn comes_before(set: &Set, last: usize, c: usize, b: usize) -> bool {
 
 fn choose(set: &Set, marks: &[bool], last: usize) -> Option<usize> {
     let mut chosen = None;
-    for b in 0..marks.len() {
-        if marks[b] && chosen.is_none_or(|c| comes_before(set, last, c, b)) {
+    for (b, &marked) in marks.iter().enumerate() {
+        if marked && chosen.is_none_or(|c| comes_before(set, last, c, b)) {
             chosen = Some(b);
         }
     }

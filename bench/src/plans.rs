@@ -1,4 +1,5 @@
 //! The fixed plans, and generated ones that are the same in every run.
+use crate::plain::{self, Counts, Walk};
 
 struct Flow {
     number: u8,
@@ -127,6 +128,78 @@ fn one() -> Vec<u8> {
     bytes(1, 2, &[flow])
 }
 
+/// Sixteen flows with a step at nearly every tick: half of them backwards, so that counts step at other instants at each node.
+fn dense() -> Vec<u8> {
+    let flow = |a: u8| Flow {
+        number: a + 1,
+        priority: 0,
+        period: 10 + a as u16,
+        jitter: a as u16 * 7 % 23,
+        path: (1..=8)
+            .map(|h| (if a < 8 { 9 - h } else { h }, 1))
+            .collect(),
+    };
+    let flows: Vec<Flow> = (0..16).map(flow).collect();
+    bytes(1, 2, &flows)
+}
+
+/// A generator (xorshift) with a fixed seed.
+struct Chance(u64);
+
+impl Chance {
+    /// A number from the least to the greatest.
+    fn pick(&mut self, least: u16, greatest: u16) -> u16 {
+        self.0 ^= self.0 << 13;
+        self.0 ^= self.0 >> 7;
+        self.0 ^= self.0 << 17;
+        let choices = (greatest - least) as u64 + 1;
+        least + ((self.0 >> 32) % choices) as u16
+    }
+}
+
+/// A run of successive nodes of a line of twelve, forwards or backwards: such paths cross as they may.
+fn stretch(chance: &mut Chance, dearest: u16) -> Vec<(u8, u16)> {
+    let length = chance.pick(2, 8);
+    let first = chance.pick(1, 13 - length);
+    let mut path: Vec<(u8, u16)> = (first..first + length)
+        .map(|h| (h as u8, chance.pick(1, dearest)))
+        .collect();
+    if chance.pick(0, 1) == 1 {
+        path.reverse();
+    }
+    path
+}
+
+/// A plan with long periods. The load is chosen for the whole, so that busy lengths are thousands of ticks whether flows are few or many.
+fn wide_plan(chance: &mut Chance) -> Vec<u8> {
+    let flows = chance.pick(4, 16);
+    let priorities = chance.pick(1, 3);
+    let dearest = (chance.pick(10000, 40000) / flows).min(4095);
+    let flow = |a: u16| Flow {
+        number: a as u8 + 1,
+        priority: (chance.pick(1, priorities) - 1) as u8,
+        period: chance.pick(5000, 65535),
+        jitter: chance.pick(0, 3000),
+        path: stretch(chance, dearest),
+    };
+    let flows: Vec<Flow> = (0..flows).map(flow).collect();
+    bytes(1, 20, &flows)
+}
+
+fn has_busy_lengths(plan: &[u8]) -> bool {
+    let set = plain::read(plan);
+    let verdict = plain::judge(&plain::prepare(&set), Walk::Steps, &mut Counts::default());
+    verdict.answer % 256 != 8
+}
+
+fn wide() -> Vec<Vec<u8>> {
+    let mut chance = Chance(0x9e3779b97f4a7c15);
+    std::iter::repeat_with(|| wide_plan(&mut chance))
+        .filter(|plan| has_busy_lengths(plan))
+        .take(60)
+        .collect()
+}
+
 fn single(name: &'static str, plan: Vec<u8>) -> Group {
     Group {
         name,
@@ -150,6 +223,12 @@ pub fn all() -> Vec<Group> {
         single("one flow", one()),
         single("line, three priorities", line(3)),
         single("line, one priority", line(1)),
+        single("a step at nearly every tick", dense()),
+        Group {
+            name: "wide generated ones",
+            plans: wide(),
+            long: false,
+        },
         Group {
             long: true,
             ..single("ring of 16, slow", ring(4095))
