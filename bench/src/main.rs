@@ -42,29 +42,43 @@ fn plain_prepare(plan: &[u8]) -> u64 {
     0
 }
 
-fn run(judge: Judge, plan: &[u8], times: u32) -> Duration {
-    let start = Instant::now();
-    for _ in 0..times {
-        black_box(judge(black_box(plan)));
-    }
-    start.elapsed()
+struct Timed {
+    answer: u64,
+    least: Duration,
 }
 
-/// The least time of each, of up to 21 runs. They run in turn, so that all meet the same machine, and again and again for about this long.
-fn least_times(judges: &[Judge], plan: &[u8], long: Duration) -> Vec<Duration> {
-    let mut least: Vec<Duration> = judges.iter().map(|&j| run(j, plan, 1)).collect();
-    let times: Vec<u32> = least
-        .iter()
-        .map(|once| (long.as_nanos() / 80 / once.as_nanos().max(1)).clamp(1, 100_000) as u32)
-        .collect();
-    let round: Duration = least.iter().zip(&times).map(|(&once, &k)| once * k).sum();
-    let rounds = (long.as_nanos() / round.as_nanos().max(1)).clamp(1, 21);
-    for _ in 0..rounds {
-        for (k, &judge) in judges.iter().enumerate() {
-            least[k] = least[k].min(run(judge, plan, times[k]) / times[k]);
+fn run(judge: Judge, plan: &[u8], times: u32) -> Timed {
+    let mut answer = 0;
+    let start = Instant::now();
+    for _ in 0..times {
+        answer = black_box(judge(black_box(plan)));
+    }
+    let least = start.elapsed() / times;
+    Timed { answer, least }
+}
+
+const RUNS: u32 = 20;
+
+/// How many runs there is time for, and how often each judges the plan; none beyond the first, if that took all of the time.
+fn runs_in(span: Duration, once: Duration) -> (u32, u32) {
+    let once = once.as_nanos().max(1);
+    let times = (span.as_nanos() / RUNS as u128 / once).clamp(1, 100_000);
+    let runs = (span.as_nanos() / (once * times)).min(RUNS as u128);
+    (runs as u32, times as u32)
+}
+
+/// The least time of each. They run in turn, so that all meet the same machine.
+fn least_times(judges: &[Judge], plan: &[u8], span: Duration) -> Vec<Timed> {
+    let mut timed: Vec<Timed> = judges.iter().map(|&j| run(j, plan, 1)).collect();
+    let runs: Vec<(u32, u32)> = timed.iter().map(|t| runs_in(span, t.least)).collect();
+    for k in 0..RUNS {
+        for (judge, (t, &(runs, times))) in judges.iter().zip(timed.iter_mut().zip(&runs)) {
+            if k < runs {
+                t.least = t.least.min(run(*judge, plan, times).least);
+            }
         }
     }
-    least
+    timed
 }
 
 struct Walked {
@@ -94,18 +108,15 @@ struct Row {
     steps: Counts,
     ticks: Counts,
     every: Option<Duration>,
+    prepared: Duration,
     times: Vec<Duration>,
 }
 
 impl Row {
-    fn add(&mut self, plan: &[u8], ticks_too: bool, judges: &[Judge], long: Duration) {
+    /// Counts both walks, which must agree; answers as they do.
+    fn count(&mut self, plan: &[u8], every_tick: bool) -> u64 {
         let steps = walked(plan, Walk::Steps);
-        let answer = steps.verdict.answer;
-        assert_eq!(answer, proved(plan));
-        if let Some(before) = BEFORE {
-            assert_eq!(answer, before(plan));
-        }
-        if ticks_too {
+        if every_tick {
             let ticks = walked(plan, Walk::Ticks);
             assert_eq!(steps.verdict, ticks.verdict);
             assert_eq!(steps.counts.turns, ticks.counts.turns);
@@ -113,11 +124,19 @@ impl Row {
             self.every = Some(self.every.unwrap_or_default() + ticks.time);
         }
         self.steps.add(&steps.counts);
-        *self.answers.entry(answer).or_default() += 1;
+        *self.answers.entry(steps.verdict.answer).or_default() += 1;
+        steps.verdict.answer
+    }
+
+    fn time(&mut self, plan: &[u8], answer: u64, span: Duration) {
+        let mut judges: Vec<Judge> = vec![proved, plain_judge];
+        judges.extend(BEFORE);
         self.times.resize(judges.len(), Duration::ZERO);
-        for (sum, time) in self.times.iter_mut().zip(least_times(judges, plan, long)) {
-            *sum += time;
+        for (sum, timed) in self.times.iter_mut().zip(least_times(&judges, plan, span)) {
+            assert_eq!(timed.answer, answer);
+            *sum += timed.least;
         }
+        self.prepared += least_times(&[plain_prepare], plan, span)[0].least;
     }
 
     fn answers(&self) -> String {
@@ -134,17 +153,18 @@ impl Row {
 
     fn print(&self, name: &str) {
         let (ticks, steps) = (&self.ticks, &self.steps);
-        let [proved, plain, prepared] = [0, 1, 2].map(|k| self.times[k]);
+        let (proved, plain) = (self.times[0], self.times[1]);
         print!(
-            "{name} | {} | {} | {} | {} | {proved:.2?} | {plain:.2?} | {:.2} | {prepared:.2?} | {}",
+            "{name} | {} | {} | {} | {} | {proved:.2?} | {plain:.2?} | {:.2} | {:.2?} | {}",
             self.answers(),
             steps.turns,
             fewer(ticks.instants, steps.instants),
             fewer(ticks.sums, steps.sums),
             ratio(proved, plain),
+            self.prepared,
             self.every.map_or("-".into(), |time| format!("{time:.2?}")),
         );
-        if let Some(&before) = self.times.get(3) {
+        if let Some(&before) = self.times.get(2) {
             print!(" | {before:.2?} | {:.2}", ratio(before, proved));
         }
         println!();
@@ -167,12 +187,11 @@ fn tell(group: &Group, part: &str) {
     if !group.name.contains(part) || group.long && part.is_empty() {
         return;
     }
-    let mut judges: Vec<Judge> = vec![proved, plain_judge, plain_prepare];
-    judges.extend(BEFORE);
+    let span = Duration::from_secs(2) / group.plans.len() as u32;
     let mut row = Row::default();
     for plan in &group.plans {
-        let long = Duration::from_secs(4) / group.plans.len() as u32;
-        row.add(plan, !group.long, &judges, long);
+        let answer = row.count(plan, !group.long);
+        row.time(plan, answer, span);
     }
     row.print(group.name);
 }
