@@ -3,53 +3,204 @@
 mod plain;
 mod plans;
 
+use plain::{Counts, Verdict, Walk};
+use plans::Group;
+use std::collections::BTreeMap;
 use std::hint::black_box;
 use std::time::{Duration, Instant};
 
+type Judge = fn(&[u8]) -> u64;
+
 extern "C" {
     fn kezhuvanam_judge(plan: *const u8, len: usize) -> u64;
+    #[cfg(before)]
+    fn before_kezhuvanam_judge(plan: *const u8, len: usize) -> u64;
 }
 
 fn proved(plan: &[u8]) -> u64 {
     unsafe { kezhuvanam_judge(plan.as_ptr(), plan.len()) }
 }
 
+#[cfg(before)]
+fn before(plan: &[u8]) -> u64 {
+    unsafe { before_kezhuvanam_judge(plan.as_ptr(), plan.len()) }
+}
+
+#[cfg(before)]
+const BEFORE: Option<Judge> = Some(before);
+#[cfg(not(before))]
+const BEFORE: Option<Judge> = None;
+
 fn plain_judge(plan: &[u8]) -> u64 {
-    plain::judge(&plain::read(plan), &mut plain::Counts::default())
+    let set = plain::read(plan);
+    plain::judge(&plain::prepare(&set), Walk::Steps, &mut Counts::default()).answer
 }
 
-fn run(f: fn(&[u8]) -> u64, plan: &[u8], turns: u32) -> Duration {
+/// What the plain program does before the first turn.
+fn plain_prepare(plan: &[u8]) -> u64 {
+    black_box(plain::prepare(&plain::read(plan)));
+    0
+}
+
+struct Timed {
+    answer: u64,
+    least: Duration,
+}
+
+fn run(judge: Judge, plan: &[u8], times: u32) -> Timed {
+    let mut answer = 0;
     let start = Instant::now();
-    for _ in 0..turns {
-        black_box(f(black_box(plan)));
+    for _ in 0..times {
+        answer = black_box(judge(black_box(plan)));
     }
-    start.elapsed() / turns
+    let least = start.elapsed() / times;
+    Timed { answer, least }
 }
 
-/// The least of runs of about a twentieth of a second each, the two in turn, so that both meet the same machine.
-fn times(plan: &[u8]) -> (Duration, Duration) {
-    let once = run(proved, plan, 1);
-    let turns = (50_000_000 / once.as_nanos().max(1)).clamp(1, 100_000) as u32;
-    let mut least = (once, run(plain_judge, plan, 1));
-    for _ in 0..21 {
-        least.0 = least.0.min(run(proved, plan, turns));
-        least.1 = least.1.min(run(plain_judge, plan, turns));
+const RUNS: u32 = 20;
+
+/// How many runs there is time for, and how often each judges the plan; none beyond the first, if that took all of the time.
+fn runs_in(span: Duration, once: Duration) -> (u32, u32) {
+    let once = once.as_nanos().max(1);
+    let times = (span.as_nanos() / RUNS as u128 / once).clamp(1, 100_000);
+    let runs = (span.as_nanos() / (once * times)).min(RUNS as u128);
+    (runs as u32, times as u32)
+}
+
+/// The least time of each. They run in turn, so that all meet the same machine.
+fn least_times(judges: &[Judge], plan: &[u8], span: Duration) -> Vec<Timed> {
+    let mut timed: Vec<Timed> = judges.iter().map(|&j| run(j, plan, 1)).collect();
+    let runs: Vec<(u32, u32)> = timed.iter().map(|t| runs_in(span, t.least)).collect();
+    for k in 0..RUNS {
+        for (judge, (t, &(runs, times))) in judges.iter().zip(timed.iter_mut().zip(&runs)) {
+            if k < runs {
+                t.least = t.least.min(run(*judge, plan, times).least);
+            }
+        }
     }
-    least
+    timed
+}
+
+struct Walked {
+    verdict: Verdict,
+    counts: Counts,
+    time: Duration,
+}
+
+fn walked(plan: &[u8], walk: Walk) -> Walked {
+    let set = plain::read(plan);
+    let prepared = plain::prepare(&set);
+    let mut counts = Counts::default();
+    let start = Instant::now();
+    let verdict = plain::judge(&prepared, walk, &mut counts);
+    let time = start.elapsed();
+    Walked {
+        verdict,
+        counts,
+        time,
+    }
+}
+
+/// What is told of a group of plans: sums over them.
+#[derive(Default)]
+struct Row {
+    answers: BTreeMap<u64, u32>,
+    steps: Counts,
+    ticks: Counts,
+    every: Option<Duration>,
+    prepared: Duration,
+    times: Vec<Duration>,
+}
+
+impl Row {
+    /// Counts both walks, which must agree; answers as they do.
+    fn count(&mut self, plan: &[u8], every_tick: bool) -> u64 {
+        let steps = walked(plan, Walk::Steps);
+        if every_tick {
+            let ticks = walked(plan, Walk::Ticks);
+            assert_eq!(steps.verdict, ticks.verdict);
+            assert_eq!(steps.counts.turns, ticks.counts.turns);
+            self.ticks.add(&ticks.counts);
+            self.every = Some(self.every.unwrap_or_default() + ticks.time);
+        }
+        self.steps.add(&steps.counts);
+        *self.answers.entry(steps.verdict.answer).or_default() += 1;
+        steps.verdict.answer
+    }
+
+    fn time(&mut self, plan: &[u8], answer: u64, span: Duration) {
+        let mut judges: Vec<Judge> = vec![proved, plain_judge];
+        judges.extend(BEFORE);
+        self.times.resize(judges.len(), Duration::ZERO);
+        for (sum, timed) in self.times.iter_mut().zip(least_times(&judges, plan, span)) {
+            assert_eq!(timed.answer, answer);
+            *sum += timed.least;
+        }
+        self.prepared += least_times(&[plain_prepare], plan, span)[0].least;
+    }
+
+    fn answers(&self) -> String {
+        let told: Vec<String> = self
+            .answers
+            .iter()
+            .map(|(answer, &plans)| match plans {
+                1 => format!("{answer}"),
+                _ => format!("{plans} × {answer}"),
+            })
+            .collect();
+        told.join(", ")
+    }
+
+    fn print(&self, name: &str) {
+        let (ticks, steps) = (&self.ticks, &self.steps);
+        let (proved, plain) = (self.times[0], self.times[1]);
+        print!(
+            "{name} | {} | {} | {} | {} | {proved:.2?} | {plain:.2?} | {:.2} | {:.2?} | {}",
+            self.answers(),
+            steps.turns,
+            fewer(ticks.instants, steps.instants),
+            fewer(ticks.sums, steps.sums),
+            ratio(proved, plain),
+            self.prepared,
+            self.every.map_or("-".into(), |time| format!("{time:.2?}")),
+        );
+        if let Some(&before) = self.times.get(2) {
+            print!(" | {before:.2?} | {:.2}", ratio(before, proved));
+        }
+        println!();
+    }
+}
+
+fn fewer(ticks: u64, steps: u64) -> String {
+    match ticks {
+        0 => format!("- → {steps}"),
+        _ => format!("{ticks} → {steps} ({:.1})", ticks as f64 / steps as f64),
+    }
+}
+
+fn ratio(a: Duration, b: Duration) -> f64 {
+    a.as_secs_f64() / b.as_secs_f64()
+}
+
+/// A long plan is run only if its name is asked for, and not at every tick.
+fn tell(group: &Group, part: &str) {
+    if !group.name.contains(part) || group.long && part.is_empty() {
+        return;
+    }
+    let span = Duration::from_secs(2) / group.plans.len() as u32;
+    let mut row = Row::default();
+    for plan in &group.plans {
+        let answer = row.count(plan, !group.long);
+        row.time(plan, answer, span);
+    }
+    row.print(group.name);
 }
 
 fn main() {
     let part = std::env::args().nth(1).unwrap_or_default();
-    println!("plan | answer | instants | sums | turns | proved | plain | ratio");
-    for (name, plan) in plans::all().into_iter().filter(|p| p.0.contains(&part)) {
-        let mut counts = plain::Counts::default();
-        let answer = plain::judge(&plain::read(&plan), &mut counts);
-        assert_eq!(answer, proved(&plan), "{name}");
-        let (a, b) = times(&plan);
-        let ratio = a.as_secs_f64() / b.as_secs_f64();
-        println!(
-            "{name} | {answer} | {} | {} | {} | {a:?} | {b:?} | {ratio:.2}",
-            counts.instants, counts.sums, counts.turns
-        );
+    print!("plan | answer | turns | instants: every tick → steps | sums | proved | plain | ratio | plain, preparation | plain, every tick");
+    println!("{}", BEFORE.map_or("", |_| " | before | before / proved"));
+    for group in plans::all() {
+        tell(&group, &part);
     }
 }

@@ -1,10 +1,19 @@
-//! The engine's algorithm in plain Rust: prepare once, try every tick, settle flow by flow.
+//! The engine's algorithm in plain Rust: prepare once, try the instants at which a count steps up, settle flow by flow. For comparison
+//! every tick can be tried instead.
 
 pub const HORIZON: u64 = 65535;
 const NODES: usize = 8;
 const FLOWS: usize = 16;
+const SLOTS: usize = 16;
 const HERE: usize = 8;
 const INSTANT: usize = 9;
+
+/// Which instants below the busy length are tried.
+#[derive(Clone, Copy)]
+pub enum Walk {
+    Steps,
+    Ticks,
+}
 
 #[derive(Clone, Copy, Default)]
 pub struct Flow {
@@ -30,6 +39,14 @@ pub struct Counts {
     pub instants: u64,
     pub sums: u64,
     pub turns: u64,
+}
+
+impl Counts {
+    pub fn add(&mut self, other: &Counts) {
+        self.instants += other.instants;
+        self.sums += other.sums;
+        self.turns += other.turns;
+    }
 }
 
 #[derive(Clone, Copy, PartialEq)]
@@ -191,7 +208,7 @@ impl Set {
                     load += b.div_ceil(j.period) * slowest(i, j);
                 }
             }
-            let next = load.max(1).min(HORIZON + 1);
+            let next = load.clamp(1, HORIZON + 1);
             if next <= b {
                 return b;
             }
@@ -200,6 +217,7 @@ impl Set {
     }
 }
 
+/// What a count looks at, what is added, what is taken off, the period, the weight.
 #[derive(Clone, Copy, Default)]
 struct Entry {
     look: usize,
@@ -207,10 +225,29 @@ struct Entry {
     less: u64,
     period: u64,
     weight: u64,
+}
+
+/// An entry before the bounds at two places are added to `plus`.
+struct Cell {
+    entry: Entry,
     from: usize,
     also: usize,
 }
 
+struct Node {
+    base: u64,
+    added: u64,
+    cells: Vec<Cell>,
+}
+
+/// What is worked out once for a flow.
+struct Draft {
+    busy: u64,
+    nodes: Vec<Node>,
+    reads: Vec<bool>,
+}
+
+/// A node in one turn.
 #[derive(Clone, Copy, Default)]
 struct Block {
     base: u64,
@@ -218,7 +255,10 @@ struct Block {
     entries: [Entry; FLOWS],
 }
 
-const NOWHERE: usize = 128;
+/// The bounds at every node of every flow, and a 0 behind them for `NOWHERE`.
+type Replies = [u64; NOWHERE + 1];
+
+const NOWHERE: usize = FLOWS * NODES;
 
 fn source(a: usize, f: &Flow, node: u8) -> usize {
     match position(f, node) {
@@ -235,16 +275,15 @@ fn lag(lmax: u64, f: &Flow, node: u8) -> u64 {
     }
 }
 
-fn entry(set: &Set, a: usize, b: usize, p: &Flow) -> Entry {
+fn cell(set: &Set, a: usize, b: usize, p: &Flow) -> Cell {
     let (i, j) = (&set.flows[a], &set.flows[b]);
     let h = p.nodes[p.length - 1];
     let mut e = Entry {
         look: INSTANT,
         period: j.period,
-        from: NOWHERE,
-        also: NOWHERE,
         ..Entry::default()
     };
+    let (mut from, mut also) = (NOWHERE, NOWHERE);
     let (f, g) = (first_on(p, j), first_on(j, p));
     match role(i, j) {
         Role::Own => {
@@ -257,56 +296,97 @@ fn entry(set: &Set, a: usize, b: usize, p: &Flow) -> Entry {
             e.plus = j.jitter + lag(set.lmax, j, f);
             e.less = set.smin(j, l) + set.way(i, f);
             e.weight = slowest(p, j);
-            e.from = source(b, j, f);
+            from = source(b, j, f);
         }
         Role::Equal => {
             e.plus = j.jitter + lag(set.lmax, j, f) + lag(set.lmax, i, g);
             e.less = i.jitter + set.smin(j, g) + set.way(i, f);
             e.weight = slowest(p, j);
-            e.from = source(b, j, f);
-            e.also = source(a, i, g);
+            from = source(b, j, f);
+            also = source(a, i, g);
         }
         Role::Lower => {}
     }
-    e
+    Cell {
+        entry: e,
+        from,
+        also,
+    }
 }
 
-fn term(e: &Entry, v: &[u64; 16]) -> u64 {
+fn node(set: &Set, a: usize, k: usize) -> Node {
+    let i = &set.flows[a];
+    let prefix = cut(i, k + 1);
+    Node {
+        base: set.base(i, &prefix),
+        added: i.costs[k] + i.jitter,
+        cells: (0..set.flows.len())
+            .map(|b| cell(set, a, b, &prefix))
+            .collect(),
+    }
+}
+
+/// Whether a bound of j, or of i itself, stands in the sums of i.
+fn reads(set: &Set, i: &Flow, j: &Flow) -> bool {
+    match role(i, j) {
+        Role::Own => set
+            .flows
+            .iter()
+            .any(|k| role(i, k) == Role::Equal && slowest(i, k) > 0),
+        Role::Higher | Role::Equal => slowest(i, j) > 0,
+        Role::Lower => false,
+    }
+}
+
+fn draft(set: &Set, a: usize) -> Draft {
+    let i = &set.flows[a];
+    Draft {
+        busy: set.busy(i),
+        nodes: (0..i.length).map(|k| node(set, a, k)).collect(),
+        reads: set.flows.iter().map(|j| reads(set, i, j)).collect(),
+    }
+}
+
+fn fill(sheet: &mut [Block], draft: &Draft, replies: &Replies) {
+    for (block, node) in sheet.iter_mut().zip(&draft.nodes) {
+        block.base = node.base;
+        block.added = node.added;
+        for (e, cell) in block.entries.iter_mut().zip(&node.cells) {
+            *e = cell.entry;
+            e.plus += replies[cell.from] + replies[cell.also];
+        }
+    }
+}
+
+fn term(e: &Entry, v: &[u64; SLOTS]) -> u64 {
     if e.weight == 0 {
         return 0;
     }
-    let x = v[e.look % 16] + e.plus;
+    let x = v[e.look % SLOTS] + e.plus;
     if x < e.less {
         return 0;
-    }
-    if e.period == 0 {
-        return e.weight;
     }
     (1 + (x - e.less) / e.period) * e.weight
 }
 
-fn sum(block: &Block, v: &[u64; 16], n: usize, counts: &mut Counts) -> u64 {
-    counts.sums += 1;
-    let mut s = block.base;
-    for e in &block.entries[..n] {
-        s += term(e, v);
-    }
-    s
+fn sum(block: &Block, v: &[u64; SLOTS], n: usize) -> u64 {
+    block.base + block.entries[..n].iter().map(|e| term(e, v)).sum::<u64>()
 }
 
+/// The starting time at node p, upwards from that of the instant tried before; none where its bound passes the horizon.
 fn start(
     block: &Block,
-    slots: &[u64; 16],
+    v: &mut [u64; SLOTS],
+    p: usize,
     n: usize,
-    from: u64,
     counts: &mut Counts,
 ) -> Option<u64> {
-    let last = HORIZON + slots[INSTANT];
-    let mut v = *slots;
-    let mut w = from;
+    let last = HORIZON + v[INSTANT];
+    let mut w = v[p];
     while w + block.added <= last {
+        counts.sums += 1;
         v[HERE] = w;
-        let s = sum(block, &v, n, counts);
+        let s = sum(block, v, n);
         if s <= w {
             return Some(w);
         }
@@ -315,23 +395,47 @@ fn start(
     None
 }
 
+/// The instant after u at which the entry's count steps up.
+fn step_after(e: &Entry, u: u64) -> u64 {
+    let x = u + e.plus;
+    if x < e.less {
+        e.less - e.plus
+    } else {
+        u + e.period - (x - e.less) % e.period
+    }
+}
+
+/// The instant after u at which a count of the instant steps up at any node, or the end if none does before.
+fn next_step(sheet: &[Block], n: usize, u: u64, end: u64) -> u64 {
+    sheet
+        .iter()
+        .flat_map(|block| &block.entries[..n])
+        .filter(|e| e.look == INSTANT && e.weight > 0)
+        .fold(end, |least, e| least.min(step_after(e, u)))
+}
+
 fn responses(
-    sheet: &[Block; NODES],
+    sheet: &[Block],
     n: usize,
-    m: usize,
     busy: u64,
+    walk: Walk,
     counts: &mut Counts,
 ) -> Option<[u64; NODES]> {
-    let mut v = [0u64; 16];
+    let mut v = [0u64; SLOTS];
     let mut best = [0u64; NODES];
-    for u in 0..busy {
+    let mut u = 0;
+    while u < busy {
         counts.instants += 1;
         v[INSTANT] = u;
-        for p in 0..m {
-            let w = start(&sheet[p], &v, n, v[p], counts)?;
+        for (p, block) in sheet.iter().enumerate() {
+            let w = start(block, &mut v, p, n, counts)?;
             v[p] = w;
-            best[p] = best[p].max((w + sheet[p].added).saturating_sub(u));
+            best[p] = best[p].max((w + block.added).saturating_sub(u));
         }
+        u = match walk {
+            Walk::Steps => next_step(sheet, n, u, busy),
+            Walk::Ticks => u + 1,
+        };
     }
     Some(best)
 }
@@ -342,80 +446,82 @@ fn comes_before(set: &Set, last: usize, c: usize, b: usize) -> bool {
     old < new || old == new && c <= last && last < b
 }
 
-/// 0 for an accepted set, otherwise number + 256 × flow; 7 is not tested.
-pub fn judge(set: &Set, counts: &mut Counts) -> u64 {
-    let n = set.flows.len();
-    let mut draft = vec![[Block::default(); NODES]; n];
-    let mut busies = [0u64; FLOWS];
-    let mut reads = [[false; FLOWS]; FLOWS];
-    for a in 0..n {
-        let i = set.flows[a];
-        busies[a] = set.busy(&i);
-        for p in 0..i.length {
-            let prefix = cut(&i, p + 1);
-            draft[a][p].base = set.base(&i, &prefix);
-            draft[a][p].added = i.costs[p] + i.jitter;
-            for b in 0..n {
-                draft[a][p].entries[b] = entry(set, a, b, &prefix);
-            }
-        }
-        for b in 0..n {
-            let j = &set.flows[b];
-            let crosses = slowest(&i, j) > 0;
-            match role(&i, j) {
-                Role::Higher if crosses => reads[a][b] = true,
-                Role::Equal if crosses => {
-                    reads[a][b] = true;
-                    reads[a][a] = true;
-                }
-                _ => {}
-            }
+fn choose(set: &Set, marks: &[bool], last: usize) -> Option<usize> {
+    let mut chosen = None;
+    for (b, &marked) in marks.iter().enumerate() {
+        if marked && chosen.is_none_or(|c| comes_before(set, last, c, b)) {
+            chosen = Some(b);
         }
     }
-    if let Some(a) = (0..n).find(|&a| busies[a] > HORIZON) {
-        return 8 + 256 * set.flows[a].number as u64;
-    }
-    let mut replies = [0u64; 256];
-    let mut marks = [true; FLOWS];
+    chosen
+}
+
+/// The settled bounds; none where one passes the horizon.
+fn settle(set: &Set, drafts: &[Draft], walk: Walk, counts: &mut Counts) -> Option<Replies> {
+    let n = drafts.len();
+    let mut sheet = [Block::default(); NODES];
+    let mut replies = [0; NOWHERE + 1];
+    let mut marks = vec![true; n];
     let mut last = n;
-    loop {
-        let mut chosen = None;
-        for b in 0..n {
-            if marks[b] && chosen.is_none_or(|c: usize| comes_before(set, last, c, b)) {
-                chosen = Some(b);
-            }
-        }
-        let Some(a) = chosen else { break };
+    while let Some(a) = choose(set, &marks, last) {
+        let draft = &drafts[a];
+        let m = draft.nodes.len();
         last = a;
-        counts.turns += 1;
         marks[a] = false;
-        let m = set.flows[a].length;
-        let mut sheet = draft[a];
-        for block in &mut sheet[..m] {
-            for e in &mut block.entries[..n] {
-                e.plus += replies[e.from] + replies[e.also];
-            }
-        }
-        let Some(best) = responses(&sheet, n, m, busies[a], counts) else {
-            return 9;
-        };
+        counts.turns += 1;
+        fill(&mut sheet[..m], draft, &replies);
+        let best = responses(&sheet[..m], n, draft.busy, walk, counts)?;
         let mut rose = false;
-        for k in 0..m {
-            let at = a * NODES + k;
-            rose |= replies[at] < best[k];
-            replies[at] = replies[at].max(best[k]);
+        for (reply, &bound) in replies[a * NODES..].iter_mut().zip(&best[..m]) {
+            rose |= *reply < bound;
+            *reply = bound.max(*reply);
         }
         if rose {
-            for b in 0..n {
-                marks[b] |= reads[b][a];
+            for (mark, other) in marks.iter_mut().zip(drafts) {
+                *mark |= other.reads[a];
             }
         }
     }
-    for a in 0..n {
-        let f = &set.flows[a];
-        if f.deadline < replies[a * NODES + f.length - 1] {
-            return 10 + 256 * f.number as u64;
-        }
+    Some(replies)
+}
+
+pub struct Prepared<'a> {
+    set: &'a Set,
+    drafts: Vec<Draft>,
+}
+
+pub fn prepare(set: &Set) -> Prepared<'_> {
+    let drafts = (0..set.flows.len()).map(|a| draft(set, a)).collect();
+    Prepared { set, drafts }
+}
+
+/// A judgement, and the bound of each flow where they settled.
+#[derive(Debug, PartialEq)]
+pub struct Verdict {
+    pub answer: u64,
+    pub bounds: Vec<u64>,
+}
+
+/// Answers 0 for an accepted set, otherwise number + 256 × flow; 7 is not tested.
+pub fn judge(prepared: &Prepared, walk: Walk, counts: &mut Counts) -> Verdict {
+    let Prepared { set, drafts } = prepared;
+    let refused = |number, f: &Flow| number + 256 * f.number as u64;
+    let no_bounds = |answer| Verdict {
+        answer,
+        bounds: Vec::new(),
+    };
+    if let Some(a) = drafts.iter().position(|d| d.busy > HORIZON) {
+        return no_bounds(refused(8, &set.flows[a]));
     }
-    0
+    let Some(replies) = settle(set, drafts, walk, counts) else {
+        return no_bounds(9);
+    };
+    let bounds: Vec<u64> = (set.flows.iter().enumerate())
+        .map(|(a, f)| replies[a * NODES + f.length - 1])
+        .collect();
+    let late = (set.flows.iter().zip(&bounds)).find(|(f, &bound)| f.deadline < bound);
+    Verdict {
+        answer: late.map_or(0, |(f, _)| refused(10, f)),
+        bounds,
+    }
 }

@@ -1,11 +1,20 @@
-//! The fixed plans.
+//! The fixed plans, and generated ones that are the same in every run.
+use crate::plain::{self, Counts, Walk};
 
-pub struct Flow {
-    pub number: u8,
-    pub priority: u8,
-    pub period: u16,
-    pub jitter: u16,
-    pub path: Vec<(u8, u16)>,
+struct Flow {
+    number: u8,
+    priority: u8,
+    period: u16,
+    jitter: u16,
+    path: Vec<(u8, u16)>,
+}
+
+/// Plans that are told of together: one, or the generated ones.
+pub struct Group {
+    pub name: &'static str,
+    pub plans: Vec<Vec<u8>>,
+    /// To try every tick would take minutes.
+    pub long: bool,
 }
 
 fn bytes(lmin: u16, lmax: u16, flows: &[Flow]) -> Vec<u8> {
@@ -75,35 +84,154 @@ fn against(urgent: u8, others: u8, cost: u16, period: u16) -> Vec<u8> {
     bytes(1, 2, &flows)
 }
 
-/// A name and a plan each.
-pub fn all() -> Vec<(&'static str, Vec<u8>)> {
-    let ring: Vec<Flow> = (0..16u8)
-        .map(|a| Flow {
+/// Sixteen flows of two nodes each, in a ring. At a load of 1 a change goes round it, and raises each bound by little.
+fn ring(cost: u16) -> Vec<u8> {
+    let flow = |a: u8| Flow {
+        number: a + 1,
+        priority: 0,
+        period: 3 * cost,
+        jitter: (a == 0) as u16,
+        path: vec![(a + 1, cost), ((a + 1) % 16 + 1, cost)],
+    };
+    let flows: Vec<Flow> = (0..16).map(flow).collect();
+    bytes(0, cost, &flows)
+}
+
+/// Sixteen flows along a line, each of which begins a node after the one before.
+fn line(priorities: u8) -> Vec<u8> {
+    let flow = |a: u8| {
+        let (period, cost) = if a % 2 == 0 {
+            (20000, 600)
+        } else {
+            (30000, 700)
+        };
+        Flow {
             number: a + 1,
-            priority: 0,
-            period: 150,
-            jitter: (a == 0) as u16,
-            path: vec![(a + 1, 50), ((a + 1) % 16 + 1, 50)],
-        })
-        .collect();
-    let one = [Flow {
+            priority: a % priorities,
+            period,
+            jitter: 0,
+            path: (1..=8).map(|h| (a + h, cost)).collect(),
+        }
+    };
+    let flows: Vec<Flow> = (0..16).map(flow).collect();
+    bytes(1, 2, &flows)
+}
+
+fn one() -> Vec<u8> {
+    let flow = Flow {
         number: 1,
         priority: 0,
         period: 20000,
         jitter: 100,
         path: (1..=8).map(|h| (h, 4000)).collect(),
-    }];
+    };
+    bytes(1, 2, &[flow])
+}
+
+/// Sixteen flows with a step at nearly every tick: half of them backwards, so that counts step at other instants at each node.
+fn dense() -> Vec<u8> {
+    let flow = |a: u8| Flow {
+        number: a + 1,
+        priority: 0,
+        period: 10 + a as u16,
+        jitter: a as u16 * 7 % 23,
+        path: (1..=8)
+            .map(|h| (if a < 8 { 9 - h } else { h }, 1))
+            .collect(),
+    };
+    let flows: Vec<Flow> = (0..16).map(flow).collect();
+    bytes(1, 2, &flows)
+}
+
+/// A generator (xorshift) with a fixed seed.
+struct Chance(u64);
+
+impl Chance {
+    /// A number from the least to the greatest.
+    fn pick(&mut self, least: u16, greatest: u16) -> u16 {
+        self.0 ^= self.0 << 13;
+        self.0 ^= self.0 >> 7;
+        self.0 ^= self.0 << 17;
+        let choices = (greatest - least) as u64 + 1;
+        least + ((self.0 >> 32) % choices) as u16
+    }
+}
+
+/// A run of successive nodes of a line of twelve, forwards or backwards: such paths cross as they may.
+fn stretch(chance: &mut Chance, dearest: u16) -> Vec<(u8, u16)> {
+    let length = chance.pick(2, 8);
+    let first = chance.pick(1, 13 - length);
+    let mut path: Vec<(u8, u16)> = (first..first + length)
+        .map(|h| (h as u8, chance.pick(1, dearest)))
+        .collect();
+    if chance.pick(0, 1) == 1 {
+        path.reverse();
+    }
+    path
+}
+
+/// A plan with long periods. The load is chosen for the whole, so that busy lengths are thousands of ticks whether flows are few or many.
+fn wide_plan(chance: &mut Chance) -> Vec<u8> {
+    let flows = chance.pick(4, 16);
+    let priorities = chance.pick(1, 3);
+    let dearest = (chance.pick(10000, 40000) / flows).min(4095);
+    let flow = |a: u16| Flow {
+        number: a as u8 + 1,
+        priority: (chance.pick(1, priorities) - 1) as u8,
+        period: chance.pick(5000, 65535),
+        jitter: chance.pick(0, 3000),
+        path: stretch(chance, dearest),
+    };
+    let flows: Vec<Flow> = (0..flows).map(flow).collect();
+    bytes(1, 20, &flows)
+}
+
+fn has_busy_lengths(plan: &[u8]) -> bool {
+    let set = plain::read(plan);
+    let verdict = plain::judge(&plain::prepare(&set), Walk::Steps, &mut Counts::default());
+    verdict.answer % 256 != 8
+}
+
+fn wide() -> Vec<Vec<u8>> {
+    let mut chance = Chance(0x9e3779b97f4a7c15);
+    std::iter::repeat_with(|| wide_plan(&mut chance))
+        .filter(|plan| has_busy_lengths(plan))
+        .take(60)
+        .collect()
+}
+
+fn single(name: &'static str, plan: Vec<u8>) -> Group {
+    Group {
+        name,
+        plans: vec![plan],
+        long: false,
+    }
+}
+
+pub fn all() -> Vec<Group> {
     vec![
-        ("hall, three priorities", hall(3, false)),
-        ("hall, one priority", hall(1, false)),
-        ("ring that settles slowly", bytes(0, 50, &ring)),
-        ("hall, half of the paths reversed", hall(1, true)),
-        ("sixteen, eight against eight", against(0, 16, 20, 320)),
-        (
+        single("hall, three priorities", hall(3, false)),
+        single("hall, one priority", hall(1, false)),
+        single("ring that settles slowly", ring(50)),
+        single("hall, half of the paths reversed", hall(1, true)),
+        single("sixteen, eight against eight", against(0, 16, 20, 320)),
+        single(
             "two against each other, below fourteen",
             against(14, 2, 50, 200),
         ),
-        ("four, two against two", against(0, 4, 50, 200)),
-        ("one flow", bytes(1, 2, &one)),
+        single("four, two against two", against(0, 4, 50, 200)),
+        single("one flow", one()),
+        single("line, three priorities", line(3)),
+        single("line, one priority", line(1)),
+        single("a step at nearly every tick", dense()),
+        Group {
+            name: "wide generated ones",
+            plans: wide(),
+            long: false,
+        },
+        Group {
+            long: true,
+            ..single("ring of 16, slow", ring(4095))
+        },
     ]
 }
