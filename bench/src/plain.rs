@@ -405,13 +405,19 @@ fn step_after(e: &Entry, u: u64) -> u64 {
     }
 }
 
-/// The instant after u at which a count of the instant steps up at any node, or the end if none does before.
+/// The instant after u at which a count of the instant steps up at any node, or the end if none does before. None is nearer than u + 1.
 fn next_step(sheet: &[Block], n: usize, u: u64, end: u64) -> u64 {
-    sheet
-        .iter()
-        .flat_map(|block| &block.entries[..n])
-        .filter(|e| e.look == INSTANT && e.weight > 0)
-        .fold(end, |least, e| least.min(step_after(e, u)))
+    let mut next = end;
+    for block in sheet {
+        if next == u + 1 {
+            break;
+        }
+        next = block.entries[..n]
+            .iter()
+            .filter(|e| e.look == INSTANT && e.weight > 0)
+            .fold(next, |least, e| least.min(step_after(e, u)));
+    }
+    next
 }
 
 fn responses(

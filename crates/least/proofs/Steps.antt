@@ -32,6 +32,10 @@ step-ext {φ} {ψ} {u} {end} {r} e p = record {
 pub step-none : {φ : ℕ → ℕ} {u end : ℕ} → ((v : ℕ) → u ≤ v → φ v ≡ φ u) → u < end → Step φ u end end
 step-none {φ} {u} {end} h q = record { later = q; most = omega arith; still = λ v a b. h v a; up = λ z. absurd (omega arith) }
 
+-- nothing lies between u and the tick after it
+pub step-near : {φ : ℕ → ℕ} {u r : ℕ} → r ≡ u + 1 → Step φ u r r
+step-near {φ} {u} {r} e = record { later = omega arith; most = omega arith; still = λ v a b. (let q : v ≡ u = omega arith in ap φ q); up = λ z. absurd (omega arith) }
+
 -- of a sum the next step is the first of both, the second sought no further than the first
 pub step-both : {φ ψ : ℕ → ℕ} {u end r s : ℕ} → ((v : ℕ) → u ≤ v → ψ u ≤ ψ v) → Step φ u end r → Step ψ u r s → Step (λ v. φ v + ψ v) u end s
 step-both {φ} {ψ} {u} {end} {r} {s} rises p q = record {

@@ -13,13 +13,13 @@ use Rattle.least.specs.Fold.{sumTo}
 use Rattle.least.specs.Instants.{bestTo}
 use Rattle.least.specs.Steps.{Step}
 use Rattle.least.proofs.Count.{le-or-lt, pick-le}
-use Rattle.least.proofs.Fold.{sum-to-le, sum-to-lt}
+use Rattle.least.proofs.Fold.{sum-to-lt}
 use Rattle.least.proofs.Fixed.{least-ext}
-use Rattle.least.proofs.Steps.{step-ext, step-none, step-more, step-above, step-times, best-still}
+use Rattle.least.proofs.Steps.{step-ext, step-none, step-near, step-more, step-above, step-times, best-still}
 use Rattle.starts.specs.Sheet.{entrySize, blockSize, hereSlot, instantSlot, values, added, termOf, sheetSum, seen, sums, Fit, StartsOf, prior}
 use Rattle.starts.specs.Steps.{EntryStep, NodeStep, SheetStep}
 use Rattle.starts.proofs.Terms.{term-none}
-use Rattle.starts.proofs.Sums.{term-le, start-found}
+use Rattle.starts.proofs.Sums.{term-le, sheet-le, start-found}
 
 -- what is seen, and what is added, rises with the instant
 module _ (e : List ℕ) (x : ℕ → ℕ) (w u v : ℕ) (h : u ≤ v) where
@@ -30,12 +30,7 @@ module _ (e : List ℕ) (x : ℕ → ℕ) (w u v : ℕ) (h : u ≤ v) where
   term-rises k = term-le e (seen x w u) (seen x w v) k (seen-rises (values e k % 16))
 
   pub sum-rises : (n p : ℕ) → sums e n u p x w ≤ sums e n v p x w
-  unfolding sheetSum
-  sum-rises n p = omega (
-    arith,
-    sum-to-le n (λ j. termOf e (seen x w u) (p * blockSize + 2 + j * entrySize)) (λ j. termOf e (seen x w v) (p * blockSize + 2 + j * entrySize))
-        (λ j q. term-rises (p * blockSize + 2 + j * entrySize)),
-  )
+  sum-rises n p = sheet-le e p n (seen x w u) (seen x w v) (λ j q. seen-rises (values e (p * blockSize + 2 + j * entrySize) % 16))
 
 -- the ways out of an entry
 module _ (e : List ℕ) (k u end : ℕ) where
@@ -89,6 +84,16 @@ module _ (e : List ℕ) (u end : ℕ) where
 
   pub nodes-all : (n p m r : ℕ) → SheetStep e n p u end r → m ≤ p → p ≤ m → SheetStep e n m u end r
   nodes-all n p m r a l h = let q : p ≡ m = omega arith in subst (λ i. SheetStep e n i u end r) q a
+
+  -- a step at the tick after u is the next one, whatever the nodes that were not asked
+  pub nodes-near : (n p m r : ℕ) → SheetStep e n p u end r → p ≤ m → r ≡ u + 1 → SheetStep e n m u end r
+  nodes-near n p m r a h is = let q : p + (m - p) ≡ m = omega arith in subst (λ k. SheetStep e n k u end r) q (go (m - p) p a)
+    where
+      go : (d p : ℕ) → SheetStep e n p u end r → SheetStep e n (p + d) u end r
+      go zero p a = let q : p ≡ p + 0 = omega arith in subst (λ k. SheetStep e n k u end r) q a
+      go (suc d) p a =
+          let q : p + 1 + d ≡ p + suc d = omega arith in
+          subst (λ k. SheetStep e n k u end r) q (go d (p + 1) (nodes-more n p r r a (λ x w. step-near is)))
 
 pub sum-still : (e : List ℕ) (n m u end r : ℕ) → SheetStep e n m u end r → (v : ℕ) → u ≤ v → v < r →
     (p : ℕ) → p < m → (x : ℕ → ℕ) (w : ℕ) → sums e n v p x w ≡ sums e n u p x w

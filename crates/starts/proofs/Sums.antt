@@ -21,26 +21,29 @@ pub term-le : (e : List ℕ) (v v′ : ℕ → ℕ) (k : ℕ) → v (values e k 
 unfolding termOf
 term-le e v v′ k h = mul-le-mul-right (values e (k + 4)) (count-rises (values e (k + 2)) (values e (k + 3)) (omega arith))
 
-pub sheet-ext : (e : List ℕ) (p n : ℕ) (v v′ : ℕ → ℕ) → ((k : ℕ) → v k ≡ v′ k) → sheetSum e p n v ≡ sheetSum e p n v′
+-- a sum rises with what its counts look at
+pub sheet-le : (e : List ℕ) (p n : ℕ) (v v′ : ℕ → ℕ) →
+    ((j : ℕ) → j < n → v (values e (p * blockSize + 2 + j * entrySize) % 16) ≤ v′ (values e (p * blockSize + 2 + j * entrySize) % 16)) →
+    sheetSum e p n v ≤ sheetSum e p n v′
 unfolding sheetSum
-sheet-ext e p n v v′ h = omega (
+sheet-le e p n v v′ h = omega (
   arith,
   sum-to-le n (λ j. termOf e v (p * blockSize + 2 + j * entrySize)) (λ j. termOf e v′ (p * blockSize + 2 + j * entrySize))
-      (λ j q. term-le e v v′ (p * blockSize + 2 + j * entrySize) (le-of-eq (h (values e (p * blockSize + 2 + j * entrySize) % 16)))),
-  sum-to-le n (λ j. termOf e v′ (p * blockSize + 2 + j * entrySize)) (λ j. termOf e v (p * blockSize + 2 + j * entrySize))
-      (λ j q. term-le e v′ v (p * blockSize + 2 + j * entrySize) (le-of-eq (sym (h (values e (p * blockSize + 2 + j * entrySize) % 16))))),
+      (λ j q. term-le e v v′ (p * blockSize + 2 + j * entrySize) (h j q)),
 )
 
--- a sum rises with the values that its counts look at
+pub sheet-ext : (e : List ℕ) (p n : ℕ) (v v′ : ℕ → ℕ) → ((k : ℕ) → v k ≡ v′ k) → sheetSum e p n v ≡ sheetSum e p n v′
+sheet-ext e p n v v′ h = omega (
+  arith,
+  sheet-le e p n v v′ (λ j q. le-of-eq (h (values e (p * blockSize + 2 + j * entrySize) % 16))),
+  sheet-le e p n v′ v (λ j q. le-of-eq (sym (h (values e (p * blockSize + 2 + j * entrySize) % 16)))),
+)
+
+-- with the instant, the starting times before p and the one sought
 module _ (e : List ℕ) (n m : ℕ) (fit : Fit e n m) where
   pub sums-le : (u u′ p : ℕ) → p < m → u ≤ u′ → (x x′ : ℕ → ℕ) → ((l : ℕ) → l < p → x l ≤ x′ l) → (w w′ : ℕ) → w ≤ w′ → sums e n u p x w ≤ sums e n u′ p x′ w′
-  unfolding sheetSum
   sums-le u u′ p hp hu x x′ hx w w′ hw =
-      omega (
-        arith,
-        sum-to-le n (λ j. termOf e (seen x w u) (p * blockSize + 2 + j * entrySize)) (λ j. termOf e (seen x′ w′ u′) (p * blockSize + 2 + j * entrySize))
-            (λ j hj. term-le e (seen x w u) (seen x′ w′ u′) (p * blockSize + 2 + j * entrySize) (at (values e (p * blockSize + 2 + j * entrySize) % 16) (fit .back p j hp hj))),
-      )
+      sheet-le e p n (seen x w u) (seen x′ w′ u′) (λ j hj. at (values e (p * blockSize + 2 + j * entrySize) % 16) (fit .back p j hp hj))
     where
       at : (k : ℕ) → Back p k → seen x w u k ≤ seen x′ w′ u′ k
       at k (inl h) = pick-le (eqb k hereSlot) hw (pick-le (eqb k instantSlot) hu (hx k h))

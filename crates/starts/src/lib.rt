@@ -191,7 +191,7 @@ fn node_step(e: &[u64; SHEET], p: usize, n: usize, u: u64, end: u64) -> u64
     next
 }
 
-// Of the sums at all of the first m nodes: a starting time carries a step on to the nodes behind it.
+// Of the sums at all of the first m nodes: a starting time carries a step on to the nodes behind it. No step is nearer than the next tick.
 fn next_step(e: &[u64; SHEET], n: usize, m: usize, u: u64, end: u64) -> u64
     requires { ⌜ (m ≤ mostNodes) × (n ≤ mostFlows) × (u < end) × (end < 16777216) × Small (now e) ⌝ }
     ensures { λ r. ⌜ SheetStep (now (e .entry)) n m u end r ⌝ }
@@ -199,6 +199,9 @@ fn next_step(e: &[u64; SHEET], n: usize, m: usize, u: u64, end: u64) -> u64
     let mut next = end;
     let mut p: usize = 0;
     while p < m {
+        if next == u + 1 {
+            return next;
+        }
         next = node_step(e, p, n, u, next);
         p += 1;
     }

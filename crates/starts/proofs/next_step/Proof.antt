@@ -1,5 +1,5 @@
 -- `starts::next_step` meets its contract.
-use Rattle.starts.proofs.Steps.{nodes-none, nodes-more, nodes-all}
+use Rattle.starts.proofs.Steps.{nodes-none, nodes-more, nodes-near, nodes-all}
 use Rattle.starts.specs.Steps.{SheetStep}
 use Prim.Native.Nat.{_-_, _≤_}
 use borrow.Author.Needs.{needs}
@@ -19,8 +19,14 @@ abbrev μ-loop : tie.MeasureT-loop
 loop-holds : tie.Need-loop-holds Inv-loop μ-loop
 loop-holds c = let a = c .args in (omega arith, nodes-none (a .e .now) (a .u) (a .end) (a .n) (omega arith))
 
+add-if1 : tie.Need-add-if1 Inv-loop μ-loop
+add-if1 c = search needs
+
+returns : tie.Need-returns Inv-loop μ-loop
+returns c = let a = c .before .before .before .args in let l = c .before .before .loop in nodes-near (a .e .now) (a .u) (a .end) (a .n) (l .p) (a .m) (l .next) (l .inv .1) (l .inv .0) (omega arith)
+
 node-step-requires : tie.Need-node-step-requires Inv-loop μ-loop
-node-step-requires c κs = let p = c .before .before .pre in let s = c .before .loop .inv .1 (λ k. 0) 0 in (omega arith, p .1, s .later, omega (arith, s .most), p .4)
+node-step-requires c κs = let p = c .before .before .before .pre in let s = c .before .before .loop .inv .1 (λ k. 0) 0 in (omega arith, p .1, s .later, omega (arith, s .most), p .4)
 
 add-p : tie.Need-add-p Inv-loop μ-loop
 add-p c = search needs
@@ -29,12 +35,22 @@ loop-less : tie.Need-loop-less Inv-loop μ-loop
 loop-less c = search needs
 
 loop-again : tie.Need-loop-again Inv-loop μ-loop
-loop-again c = let a = c .before .before .before .args in let l = c .before .before .loop in (omega arith, nodes-more (a .e .now) (a .u) (a .end) (a .n) (l .p) (l .next) (c .node-step .result) (l .inv .1) (c .node-step .ensures))
+loop-again c = let a = c .before .before .before .before .args in let l = c .before .before .before .loop in (omega arith, nodes-more (a .e .now) (a .u) (a .end) (a .n) (l .p) (l .next) (c .node-step .result) (l .inv .1) (c .node-step .ensures))
 
-returns : tie.Need-returns Inv-loop μ-loop
-returns c = let a = c .before .before .args in let l = c .before .loop in nodes-all (a .e .now) (a .u) (a .end) (a .n) (l .p) (a .m) (l .next) (l .inv .1) (omega arith) (omega arith)
+returns-2 : tie.Need-returns-2 Inv-loop μ-loop
+returns-2 c = let a = c .before .before .args in let l = c .before .loop in nodes-all (a .e .now) (a .u) (a .end) (a .n) (l .p) (a .m) (l .next) (l .inv .1) (omega arith) (omega arith)
 
 pub next-step-spec : {M : Type 1} → statement M
 next-step-spec =
     tie.close
-    (tie.spec Inv-loop μ-loop loop-holds node-step-requires add-p loop-less loop-again returns)
+    (tie.spec
+    Inv-loop
+    μ-loop
+    loop-holds
+    add-if1
+    returns
+    node-step-requires
+    add-p
+    loop-less
+    loop-again
+    returns-2)
