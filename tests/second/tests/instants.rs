@@ -1,11 +1,16 @@
-//! Of all instants those are enough at which some count steps up: tried alone,
-//! in the slow formula, they give the program's figures, and the program tries
-//! every tick. Which steps count is easily misread; some sets tell.
+//! Of all instants those are enough at which some count steps up: tried alone
+//! they give the program's figures, and the program tries every tick. Which
+//! steps are meant is easily misread; some sets tell.
 
 mod formula;
+mod steps;
 
 use formula::{agree, set, tells_apart, Reading};
-use second::sets::Recipe;
+use second::dice::Dice;
+use second::set::Set;
+use second::sets::{self, Recipe};
+use second::verdict::judge_set;
+use steps::bounds;
 
 /// The steps on every prefix, and those on the prefixes that a starting time
 /// goes back to.
@@ -49,6 +54,84 @@ fn bounds_at_the_horizon() {
     steps_are_enough(Recipe::LateBound, 17, 200);
     steps_are_enough(Recipe::LateDrop, 18, 200);
     steps_are_enough(Recipe::FarJitter, 19, 200);
+}
+
+#[test]
+fn late_steps() {
+    steps_are_enough(Recipe::LateStep, 20, 60);
+}
+
+/// A set and the program's bounds for it.
+type Judged = (Set, Vec<i64>);
+
+/// Those of the recipe's sets that have figures.
+fn judged(recipe: Recipe, seed: u64, times: usize) -> Vec<Judged> {
+    let mut dice = Dice::new(seed);
+    let sets = (0..times).map(|_| sets::make(recipe, &mut dice));
+    sets.filter_map(|set| {
+        let figures = judge_set(&set).ok()?;
+        Some((set, figures.iter().map(|f| f.bound).collect()))
+    })
+    .collect()
+}
+
+fn steps_are_enough_for(judged: &[Judged]) {
+    for (set, given) in judged {
+        for reading in [Reading::EveryPrefix, Reading::NamedPrefixes] {
+            let found = bounds(set, reading);
+            assert_eq!(found.as_ref(), Some(given), "{reading:?}: {set:?}");
+        }
+    }
+}
+
+/// The recipes are for telling misread instants, and not by a rare set alone: at
+/// least so many of the sets get other bounds.
+fn tell(judged: &[Judged], least: [(Reading, usize); 5]) {
+    for (reading, least) in least {
+        let differs = |(set, given): &&Judged| bounds(set, reading).is_some_and(|b| b != *given);
+        let told = judged.iter().filter(differs).count();
+        assert!(told >= least, "{reading:?}: {told} of {}", judged.len());
+    }
+}
+
+#[test]
+fn late_steps_tell() {
+    let judged = judged(Recipe::LateStep, 21, 1_000);
+    steps_are_enough_for(&judged);
+    tell(
+        &judged,
+        [
+            (Reading::DirectlyNamed, 200),
+            (Reading::ThisPrefix, 250),
+            (Reading::OwnSteps, 500),
+            (Reading::NoFirstStep, 250),
+            (Reading::LateSteps, 500),
+        ],
+    );
+}
+
+#[test]
+fn wide_steps_tell() {
+    let judged = judged(Recipe::WideStep, 22, 100);
+    steps_are_enough_for(&judged);
+    tell(
+        &judged,
+        [
+            (Reading::DirectlyNamed, 8),
+            (Reading::ThisPrefix, 15),
+            (Reading::OwnSteps, 50),
+            (Reading::NoFirstStep, 25),
+            (Reading::LateSteps, 50),
+        ],
+    );
+}
+
+/// Most of these are too long for the slow formula.
+#[test]
+fn long_sets() {
+    steps_are_enough_for(&judged(Recipe::Crowd, 23, 200));
+    steps_are_enough_for(&judged(Recipe::Wide, 24, 200));
+    steps_are_enough_for(&judged(Recipe::LongBusy, 25, 4));
 }
 
 /// The sets of tests/cases that tell the instants to be tried from others.

@@ -37,6 +37,11 @@ fn ways_back() {
 }
 
 #[test]
+fn late_steps() {
+    agree(Recipe::LateStep, Reading::Right, 10, 30);
+}
+
+#[test]
 fn bounds_at_the_horizon() {
     agree(Recipe::LateBound, Reading::Right, 7, 150);
     agree(Recipe::LateDrop, Reading::Right, 8, 150);
