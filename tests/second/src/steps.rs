@@ -8,9 +8,9 @@ use crate::set::Set;
 use crate::sets::{cheapen, links};
 use crate::verdict::judge_set;
 
-/// In each of these a flow's bound is reached at a step on an early prefix of
-/// its path, whose starting time enters the sum at a later node only by way of
-/// the one at a node between. The first is in tests/cases too.
+/// In each of these a flow's bound is reached at a step on the prefix of an early
+/// node, whose starting time enters the sum at a later one only by way of that at
+/// a node between. The first is in tests/cases too.
 const BY_WAY_OF: [Found; 8] = [
     Found {
         links: (0, 0),
@@ -184,7 +184,7 @@ pub fn wide(dice: &mut Dice) -> Set {
         Ok(figures) => figures.iter().map(|f| f.bound).max().unwrap_or(1),
         Err(_) => 100,
     };
-    let times = dice.pick(8_000, 50_000) / longest;
+    let times = (dice.pick(8_000, 50_000) / longest).max(1);
     stretch(&mut set, times);
     let little = dice.one_of(&[0, 3, times / 10]);
     for flow in &mut set.flows {
@@ -198,7 +198,7 @@ pub fn wide(dice: &mut Dice) -> Set {
 }
 
 /// All times so many times as long, as far as the ranges go.
-pub fn stretch(set: &mut Set, times: i64) {
+fn stretch(set: &mut Set, times: i64) {
     let longer = |time: &mut i64, most: i64| *time = (*time * times).min(most);
     longer(&mut set.links.least, SMALL);
     longer(&mut set.links.most, SMALL);

@@ -5,7 +5,7 @@
 mod formula;
 mod steps;
 
-use formula::{agree, set, tells_apart, Reading};
+use formula::{agree, figures, set, tells_apart, Reading};
 use second::dice::Dice;
 use second::set::Set;
 use second::sets::{self, Recipe};
@@ -14,9 +14,12 @@ use steps::bounds;
 
 /// The steps on every prefix, and those on the prefixes that a starting time
 /// goes back to.
+const ENOUGH: [Reading; 2] = [Reading::EveryPrefix, Reading::NamedPrefixes];
+
 fn steps_are_enough(recipe: Recipe, seed: u64, times: usize) {
-    agree(recipe, Reading::EveryPrefix, seed, times);
-    agree(recipe, Reading::NamedPrefixes, seed, times);
+    for reading in ENOUGH {
+        agree(recipe, reading, seed, times);
+    }
 }
 
 #[test]
@@ -77,7 +80,7 @@ fn judged(recipe: Recipe, seed: u64, times: usize) -> Vec<Judged> {
 
 fn steps_are_enough_for(judged: &[Judged]) {
     for (set, given) in judged {
-        for reading in [Reading::EveryPrefix, Reading::NamedPrefixes] {
+        for reading in ENOUGH {
             let found = bounds(set, reading);
             assert_eq!(found.as_ref(), Some(given), "{reading:?}: {set:?}");
         }
@@ -192,4 +195,11 @@ fn near_readings() {
             (Reading::LateSteps, [4, 2]),
         ],
     );
+    for near in [a, b, c] {
+        let given = judge_set(&near).expect("a set with figures");
+        for reading in ENOUGH {
+            let found = figures(&near, reading);
+            assert_eq!(found.as_ref(), Some(&Ok(given.clone())), "{reading:?}");
+        }
+    }
 }
