@@ -1,5 +1,5 @@
-/* The host's functions on plans and reports whose answers docs/RULES.md gives, called on a thread of KEZHUVANAM_STACK bytes. Every expected number is
-   written out here by hand. tests/host/run --stack: how much stack a call takes on one byte, on these plans and on one that takes long. */
+/* The host's functions on plans and reports whose answers docs/RULES.md gives, or for the bounds at late steps the second program, called on a thread
+   of KEZHUVANAM_STACK bytes. Every expected number is written out here by hand. tests/host/run --stack: how much stack a call takes on one byte, on these plans and on one that takes long. */
 #define _POSIX_C_SOURCE 200809L
 #include <stddef.h>
 #include <stdint.h>
@@ -80,6 +80,18 @@ static plan byte_after_end = {LINKS(1, 1), SIXTEEN, END, END};
 static plan late = {LINKS(1, 1), ALONE(1, 1, 10, 0, 2, 3), ALONE(2, 1, 20, 0, 60, 5), END};
 static plan late_and_period_0 = {LINKS(1, 1), ALONE(1, 1, 10, 0, 2, 3), ALONE(2, 1, 0, 0, 60, 5), END};
 
+/* Bounds at late steps: flow 1's is reached at t = 10 ticks, where flow 4's count steps up at node 1 alone. A reading that leaves this instant out gives
+   18 for 20. With times a thousand times as long the instant is 10,000, of 35,000 to try; flows 2 and 3 then wait longer for what is below them. */
+#define STEPS(tick, deadline)                                                                      \
+    LINKS(0, 0), FLOW(1, 1, 5 * tick, tick, deadline, 3), NODES(1, 2, 3), COSTS(tick, tick, tick), \
+        FLOW(2, 2, 5 * tick, 0, 60 * tick, 2), NODES(1, 3, 0), COSTS(2 * tick, tick, 0),           \
+        FLOW(3, 2, 9 * tick, 0, 60 * tick, 1), NODES(2, 0, 0), COSTS(2 * tick, 0, 0),              \
+        FLOW(4, 1, 6 * tick, 0, 60 * tick, 3), NODES(3, 2, 1), COSTS(tick, tick, tick), END
+static plan steps = {STEPS(1, 20)};
+static plan steps_10 = {STEPS(1, 19)};
+static plan wide = {STEPS(1000, 20000)};
+static plan wide_10 = {STEPS(1000, 19999)};
+
 /* RULES, the report. A line is number, bound, jitter, busy length. */
 #define LINE(number, bound, jitter, busy) 0x11, number, TWO(bound), TWO(jitter), TWO(busy)
 #define CLOSE 0x1F
@@ -90,6 +102,10 @@ static plan report4 = {0x10, 2, LINE(1, 7, 4, 3), LINE(2, 8, 3, 8), CLOSE};
 static plan report5 = {0x10, 2, LINE(1, 15, 12, 3), LINE(2, 11, 6, 8), CLOSE};
 static plan report10 = {0x10, 1, LINE(1, 65535, 65534, 1), CLOSE};
 static plan report255 = {0x10, 1, LINE(255, 3, 0, 3), CLOSE};
+
+static plan report_steps = {0x10, 4, LINE(1, 20, 17, 35), LINE(2, 3, 0, 2), LINE(3, 2, 0, 2), LINE(4, 23, 20, 35), CLOSE};
+static plan report_wide = {0x10, 4, LINE(1, 20000, 17000, 35000), LINE(2, 4998, 1998, 2000), LINE(3, 2999, 999, 2000),
+                           LINE(4, 23000, 20000, 35000), CLOSE};
 
 #define SMALL_LINE(number) LINE(number, 16, 15, 16)
 static plan report16 = {0x10, 16, SMALL_LINE(1), SMALL_LINE(2), SMALL_LINE(3), SMALL_LINE(4), SMALL_LINE(5), SMALL_LINE(6), SMALL_LINE(7),
@@ -139,6 +155,10 @@ static const struct {
     {"case 14", WHOLE(case14), 0},
     {"flow 255", WHOLE(last_number), 0},
     {"sixteen flows", WHOLE(sixteen), 0},
+    {"late steps", WHOLE(steps), 0},
+    {"late steps, D 19", WHOLE(steps_10), 10 + 256 * 1},
+    {"late steps, wide", WHOLE(wide), 0},
+    {"late steps, wide, D 19,999", WHOLE(wide_10), 10 + 256 * 1},
     {"Lmin > Lmax", WHOLE(delays_exchanged), 1},
     {"flow number 0", WHOLE(number_0), 2 + 65536 * 5},
     {"second flow's period 0", WHOLE(period_0), 3 + 65536 * 39},
@@ -180,6 +200,12 @@ static const struct {
     {"case 14", WHOLE(case14), 1, 3},
     {"flow 255", WHOLE(last_number), 255, 3},
     {"sixteen flows", WHOLE(sixteen), 16, 16},
+    {"late steps", WHOLE(steps), 1, 20},
+    {"late steps", WHOLE(steps), 2, 3},
+    {"late steps", WHOLE(steps), 3, 2},
+    {"late steps", WHOLE(steps), 4, 23},
+    {"late steps, wide", WHOLE(wide), 1, 20000},
+    {"late steps, wide", WHOLE(wide), 4, 23000},
 
     /* No such flow. Cut to eight bits, 257 would be flow 1; so would 2^32 + 1, cut to 32. */
     {"case 1", WHOLE(case1), 1, 0},
@@ -227,6 +253,8 @@ static const struct {
     {"flow 255", WHOLE(last_number), 131, 256 * 11, report255},
     {"sixteen flows", WHOLE(sixteen), KEZHUVANAM_REPORT, 256 * 131, report16},
     {"sixteen flows", WHOLE(sixteen), 130, 13, NULL},
+    {"late steps", WHOLE(steps), 131, 256 * 35, report_steps},
+    {"late steps, wide", WHOLE(wide), 131, 256 * 35, report_wide},
 
     /* Refused plans: 13 comes last. */
     {"case 9", WHOLE(case9), 131, 8 + 256 * 1, NULL},
@@ -285,6 +313,7 @@ static const struct {
     {"case 10", WHOLE(report10), 1, KEZHUVANAM_BOUND, 65536},
     {"flow 255", WHOLE(report255), 255, KEZHUVANAM_BUSY, 4},
     {"sixteen flows", WHOLE(report16), 16, KEZHUVANAM_JITTER, 16},
+    {"late steps, wide", WHOLE(report_wide), 4, KEZHUVANAM_BUSY, 35001},
 
     /* No such figure, no such flow, a refused report. */
     {"case 5", WHOLE(report5), 1, 0, 0},

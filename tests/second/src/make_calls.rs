@@ -99,7 +99,8 @@ fn roster() -> Vec<Session> {
     let harms = report_damage::all().into_iter().map(Session::Harmed);
     let fits = |r: &Recipe| [Fit::Loose, Fit::OneShort].map(|f| Job::Set(*r, f));
     let damages = damage::ALL.iter().map(|d| Job::Damage(*d));
-    let plans = CHEAP.iter().flat_map(fits).chain(damages);
+    let recipes = CHEAP.iter().chain([&Recipe::WideStep]);
+    let plans = recipes.flat_map(fits).chain(damages);
     std::iter::once(Session::Unread)
         .chain(CHEAP.iter().map(|r| Session::Grow(*r)))
         .chain(others)
@@ -135,14 +136,16 @@ impl Stream {
     /// Shares in a hundred.
     fn recipe(&mut self) -> Recipe {
         match self.dice.pick(1, 100) {
-            1..=4 => self.dice.one_of(&CHEAP),
-            5..=22 => Recipe::Crowd,
-            23..=33 => Recipe::Back,
-            34..=46 => Recipe::Overload,
-            47..=59 => Recipe::Loose,
-            60..=68 => Recipe::LateBound,
-            69..=74 => Recipe::LateDrop,
-            75..=82 => Recipe::Jittery,
+            1..=3 => self.dice.one_of(&CHEAP),
+            4 => Recipe::WideStep,
+            5..=18 => Recipe::Crowd,
+            19..=29 => Recipe::Back,
+            30..=42 => Recipe::Overload,
+            43..=55 => Recipe::Loose,
+            56..=64 => Recipe::LateBound,
+            65..=70 => Recipe::LateDrop,
+            71..=78 => Recipe::Jittery,
+            79..=88 => Recipe::LateStep,
             _ => Recipe::Small,
         }
     }
@@ -616,7 +619,7 @@ mod tests {
     #[test]
     fn plans_of_no_byte_to_the_most() {
         let mut read = BTreeSet::new();
-        let whole = each(&make(2_000, 1), |call, _, _| {
+        let whole = each(&make(5_000, 1), |call, _, _| {
             if let Call::Read(plan) = call {
                 read.insert(plan.len());
             }

@@ -4,7 +4,7 @@ use crate::dice::Dice;
 use crate::flow::{Flow, Links, FLOWS, HORIZON, NODES, SMALL};
 use crate::set::Set;
 use crate::verdict::busy_lengths;
-use crate::{feedback, horizon, tangles};
+use crate::{feedback, horizon, steps, tangles};
 
 #[derive(Clone, Copy, Debug, PartialEq, Eq)]
 pub enum Recipe {
@@ -30,6 +30,8 @@ pub enum Recipe {
     Tangle,
     /// A long flow below short ones that visit its nodes in any order.
     Back,
+    /// Bounds reached late, at a step of some count.
+    LateStep,
     /// Periods and jitters up to the horizon, small costs.
     FarJitter,
     /// A bound close to the horizon, through jitter.
@@ -42,10 +44,12 @@ pub enum Recipe {
     LongBusy,
     /// Sixteen flows of the greatest cost: dear.
     FullBusy,
+    /// Late steps thousands of ticks apart: dear.
+    WideStep,
 }
 
 /// Those that cost little to judge.
-pub const CHEAP: [Recipe; 15] = [
+pub const CHEAP: [Recipe; 16] = [
     Recipe::Empty,
     Recipe::Small,
     Recipe::Crowd,
@@ -57,13 +61,14 @@ pub const CHEAP: [Recipe; 15] = [
     Recipe::Knot,
     Recipe::Tangle,
     Recipe::Back,
+    Recipe::LateStep,
     Recipe::FarJitter,
     Recipe::LateBound,
     Recipe::LateDrop,
     Recipe::LongBound,
 ];
 
-pub const DEAR: [Recipe; 2] = [Recipe::LongBusy, Recipe::FullBusy];
+pub const DEAR: [Recipe; 3] = [Recipe::LongBusy, Recipe::FullBusy, Recipe::WideStep];
 
 pub fn make(recipe: Recipe, dice: &mut Dice) -> Set {
     match recipe {
@@ -81,12 +86,14 @@ pub fn make(recipe: Recipe, dice: &mut Dice) -> Set {
         Recipe::Knot => feedback::knot(dice),
         Recipe::Tangle => tangles::make(dice),
         Recipe::Back => feedback::back(dice),
+        Recipe::LateStep => steps::late(dice),
         Recipe::FarJitter => horizon::far_jitter(dice),
         Recipe::LateBound => horizon::late_bound(dice),
         Recipe::LateDrop => horizon::late_drop(dice),
         Recipe::LongBound => horizon::long_bound(dice),
         Recipe::LongBusy => horizon::long_busy(dice),
         Recipe::FullBusy => horizon::full_busy(dice),
+        Recipe::WideStep => steps::wide(dice),
     }
 }
 
