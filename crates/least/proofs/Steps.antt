@@ -1,9 +1,9 @@
--- The next step of a count, of a product and of a sum, and what the steps between leave out. Assumes nothing.
+-- The next step of a count and of a sum, and that what lies between two steps adds nothing to a maximum. Assumes nothing.
 use mathlib.Core.Path.{_≡_, ap, _∙_}
 use mathlib.Core.Logic.{inl, inr}
-use Prim.Native.Nat.{ℕ, zero, suc, _+_, _-_, _*_, _/_, _%_, _≤_, _<_, min}
+use Prim.Native.Nat.{ℕ, zero, suc, _+_, _-_, _/_, _%_, _≤_, _<_, min}
 use native.Mathlib.Omega.{arith}
-use native.Mathlib.Nat.{mul-le-mul-right, mod-lt, div-add-mod', div-zero}
+use native.Mathlib.Nat.{mod-lt, div-add-mod', div-zero}
 use native.Mathlib.Numerals.{add-one}
 use Rattle.least.specs.Count.{count}
 use Rattle.least.specs.Fold.{sumTo}
@@ -53,20 +53,13 @@ pub step-more : (f : ℕ → ℕ → ℕ) (u end j r s : ℕ) → ((v : ℕ) →
 unfolding sumTo
 step-more f u end j r s rises p q = rw (add-one j) (step-both rises p q)
 
-pub step-above : {φ : ℕ → ℕ} {u end r : ℕ} (c : ℕ) → Step φ u end r → Step (λ v. c + φ v) u end r
-step-above {φ} {u} {end} {r} c p = record {
+-- what keeps the order keeps the steps
+pub step-map : {φ : ℕ → ℕ} {u end r : ℕ} (f : ℕ → ℕ) → ((a b : ℕ) → a < b → f a < f b) → Step φ u end r → Step (λ v. f (φ v)) u end r
+step-map {φ} {u} {end} {r} f keeps p = record {
   later = p .later;
   most = p .most;
-  still = λ v a b. ap (λ x. c + x) (p .still v a b);
-  up = λ z. omega (arith, p .up z);
-}
-
-pub step-times : {φ : ℕ → ℕ} {u end r : ℕ} (w : ℕ) → 0 < w → Step φ u end r → Step (λ v. φ v * w) u end r
-step-times {φ} {u} {end} {r} w h p = record {
-  later = p .later;
-  most = p .most;
-  still = λ v a b. ap (λ c. c * w) (p .still v a b);
-  up = λ z. omega (arith, mul-le-mul-right w (p .up z));
+  still = λ v a b. ap f (p .still v a b);
+  up = λ z. keeps (φ u) (φ r) (p .up z);
 }
 
 -- the ways to the next step of count(v + a − b, T)

@@ -5,7 +5,7 @@ use mathlib.Core.Logic.{inl, inr}
 use mathlib.Core.List.{List}
 use Prim.Native.Nat.{ℕ, zero, suc, _+_, _-_, _*_, _%_, _≤_, _<_}
 use native.Mathlib.Omega.{arith}
-use native.Mathlib.Nat.{le-refl}
+use native.Mathlib.Nat.{le-refl, mul-le-mul-right}
 use lib.Dec.{eqb}
 use borrow.Author.Tests.{eqb-true}
 use Rattle.least.specs.Count.{pick, count}
@@ -15,7 +15,7 @@ use Rattle.least.specs.Steps.{Step}
 use Rattle.least.proofs.Count.{le-or-lt, pick-le}
 use Rattle.least.proofs.Fold.{sum-to-lt}
 use Rattle.least.proofs.Fixed.{least-ext}
-use Rattle.least.proofs.Steps.{step-ext, step-none, step-near, step-more, step-above, step-times, best-still}
+use Rattle.least.proofs.Steps.{step-ext, step-none, step-near, step-more, step-map, best-still}
 use Rattle.starts.specs.Sheet.{entrySize, blockSize, hereSlot, instantSlot, values, added, termOf, sheetSum, seen, sums, Fit, StartsOf, prior}
 use Rattle.starts.specs.Steps.{EntryStep, NodeStep, SheetStep}
 use Rattle.starts.proofs.Terms.{term-none}
@@ -53,7 +53,9 @@ module _ (e : List ℕ) (k u end : ℕ) where
   pub entry-looks : (r : ℕ) → values e k % 16 ≡ instantSlot → 0 < values e (k + 4) →
       Step (λ v. count (v + values e (k + 1)) (values e (k + 2)) (values e (k + 3))) u end r → EntryStep e k u end r
   unfolding termOf
-  entry-looks r is h s x w = step-ext (λ v. ap (λ l. count (seen x w v l + values e (k + 1)) (values e (k + 2)) (values e (k + 3)) * values e (k + 4)) (sym is)) (step-times (values e (k + 4)) h s)
+  entry-looks r is h s x w =
+      step-ext (λ v. ap (λ l. count (seen x w v l + values e (k + 1)) (values e (k + 2)) (values e (k + 3)) * values e (k + 4)) (sym is))
+      (step-map (λ c. c * values e (k + 4)) (λ a b q. omega (arith, mul-le-mul-right (values e (k + 4)) q)) s)
 
 -- of the first j entries at node p
 abbrev pub EntriesStep : List ℕ → ℕ → ℕ → ℕ → ℕ → ℕ → Type 0
@@ -73,7 +75,8 @@ module _ (e : List ℕ) (u end : ℕ) where
   unfolding sheetSum
   entries-all p j n r a l m x w =
       let q : j ≡ n = omega arith in
-      step-above (values e (p * blockSize)) (subst (λ i. Step (λ v. sumTo i (λ i. termOf e (seen x w v) (p * blockSize + 2 + i * entrySize))) u end r) q (a x w))
+      step-map (λ s. values e (p * blockSize) + s) (λ a b q. omega arith)
+      (subst (λ i. Step (λ v. sumTo i (λ i. termOf e (seen x w v) (p * blockSize + 2 + i * entrySize))) u end r) q (a x w))
 
   pub nodes-none : (n : ℕ) → u < end → SheetStep e n 0 u end end
   unfolding sumTo

@@ -1,5 +1,5 @@
 -- `starts::step_after` meets its contract.
-use Prim.Native.Nat.{_+_, _-_, _%_, _<_}
+use Prim.Native.Nat.{_+_, _-_}
 use native.Mathlib.Nat.{mod-lt}
 use Rattle.least.proofs.Steps.{count-first, count-ever, count-next}
 use native.Mathlib.Omega.{arith}
