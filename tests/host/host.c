@@ -1,5 +1,6 @@
-/* The host's functions on plans and reports whose answers docs/RULES.md gives, or for the bounds at late steps the second program, called on a thread
-   of KEZHUVANAM_STACK bytes. Every expected number is written out here by hand. tests/host/run --stack: how much stack a call takes on one byte, on these plans and on one that takes long. */
+/* The host's functions on plans and reports whose answers docs/RULES.md gives, or the second program (bounds at late steps), called on a thread of
+   KEZHUVANAM_STACK bytes. Every expected number is written out here by hand. tests/host/run --stack: how much stack a call takes on one byte, on
+   these plans and on one with the longest paths and long busy lengths. */
 #define _POSIX_C_SOURCE 200809L
 #include <stddef.h>
 #include <stdint.h>
