@@ -84,7 +84,7 @@ fn against(urgent: u8, others: u8, cost: u16, period: u16) -> Vec<u8> {
     bytes(1, 2, &flows)
 }
 
-/// Sixteen flows of two nodes each, in a ring. At a load of 1 a change goes round it, and raises each bound by little.
+/// Sixteen flows of two nodes each, in a ring: a change goes round and round it, and raises each bound by little.
 fn ring(cost: u16) -> Vec<u8> {
     let flow = |a: u8| Flow {
         number: a + 1,
