@@ -26,7 +26,7 @@ returns : tie.Need-returns Inv-loop μ-loop
 returns c = let a = c .before .before .before .args in let l = c .before .before .loop in nodes-near (a .e .now) (a .u) (a .end) (a .n) (l .p) (a .m) (l .next) (l .inv .1) (l .inv .0) (omega arith)
 
 node-step-requires : tie.Need-node-step-requires Inv-loop μ-loop
-node-step-requires c κs = let p = c .before .before .before .pre in let s = c .before .before .loop .inv .1 (λ k. 0) 0 in (omega arith, p .1, s .later, omega (arith, s .most), p .4)
+node-step-requires c κs = let p = c .before .before .before .pre in let s = c .before .before .loop .inv .1 (λ k. 0) 0 in (omega arith, omega arith, s .later, omega (arith, s .most), p .4)
 
 add-p : tie.Need-add-p Inv-loop μ-loop
 add-p c = search needs
