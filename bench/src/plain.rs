@@ -96,10 +96,6 @@ fn position(f: &Flow, node: u8) -> usize {
         .unwrap_or(f.length)
 }
 
-fn visits(f: &Flow, node: u8) -> bool {
-    position(f, node) < f.length
-}
-
 fn role(i: &Flow, j: &Flow) -> Role {
     if i.number == j.number {
         Role::Own
@@ -112,107 +108,163 @@ fn role(i: &Flow, j: &Flow) -> Role {
     }
 }
 
-fn cut(f: &Flow, upto: usize) -> Flow {
-    Flow { length: upto, ..*f }
+/// Two flows: what the second is to the first, the first place of the first's path that they share, the place from which the second no longer
+/// runs along it, and where each of its nodes stands on the second's path. As many as there are nodes stands for none.
+#[derive(Clone, Copy)]
+struct Pair {
+    role: Role,
+    first: u8,
+    turn: u8,
+    places: [u8; NODES],
 }
 
-fn slowest(p: &Flow, f: &Flow) -> u64 {
-    (0..f.length)
-        .filter(|&k| visits(p, f.nodes[k]))
-        .map(|k| f.costs[k])
-        .max()
-        .unwrap_or(0)
+fn first_below(places: &[u8], bound: u8) -> u8 {
+    (places.iter().position(|&k| k < bound)).unwrap_or(places.len()) as u8
 }
 
-fn first_on(a: &Flow, b: &Flow) -> u8 {
-    (0..a.length)
-        .map(|k| a.nodes[k])
-        .find(|&n| visits(b, n))
-        .unwrap_or(0)
-}
-
-fn last_on(h: u8, a: &Flow, b: &Flow) -> u8 {
-    (0..a.length)
-        .rev()
-        .map(|k| a.nodes[k])
-        .find(|&n| visits(b, n))
-        .unwrap_or(h)
-}
-
-fn cost_at(f: &Flow, node: u8) -> u64 {
-    let k = position(f, node);
-    if k < f.length {
-        f.costs[k]
-    } else {
-        0
+fn pair(i: &Flow, j: &Flow) -> Pair {
+    let mut places = [0; NODES];
+    for (place, &node) in places.iter_mut().zip(&i.nodes[..i.length]) {
+        *place = position(j, node) as u8;
+    }
+    let used = &places[..i.length];
+    let first = first_below(used, j.length as u8);
+    let bound = used.get(first as usize).map_or(0, |&k| k);
+    Pair {
+        role: role(i, j),
+        first,
+        turn: first_below(used, bound),
+        places,
     }
 }
 
-fn along(i: &Flow, p: &Flow, j: &Flow) -> bool {
-    matches!(role(i, j), Role::Higher | Role::Equal) && first_on(j, p) == first_on(p, j)
-}
-
-impl Set {
-    fn smin(&self, f: &Flow, node: u8) -> u64 {
-        (0..position(f, node)).map(|k| f.costs[k] + self.lmin).sum()
-    }
-
-    fn way(&self, i: &Flow, node: u8) -> u64 {
-        (0..position(i, node))
-            .map(|k| {
-                let least = self
-                    .flows
-                    .iter()
-                    .filter(|j| along(i, i, j) && visits(j, i.nodes[k]))
-                    .map(|j| cost_at(j, i.nodes[k]))
-                    .fold(i.costs[k], u64::min);
-                self.lmin + least
-            })
-            .sum()
-    }
-
-    fn base(&self, i: &Flow, p: &Flow) -> u64 {
-        let slow = slowest(p, i);
-        let node = (0..p.length)
-            .find(|&k| p.costs[k] == slow)
-            .map_or(0, |k| p.nodes[k]);
-        let mut sum = 0;
-        for k in 0..p.length {
-            let h = p.nodes[k];
-            if h != node {
-                sum += self
-                    .flows
-                    .iter()
-                    .filter(|j| along(i, p, j))
-                    .map(|j| cost_at(j, h))
-                    .fold(p.costs[k], u64::max);
-            }
-            let lower = self
-                .flows
-                .iter()
-                .filter(|j| role(i, j) == Role::Lower)
-                .map(|j| cost_at(j, h))
-                .max()
-                .unwrap_or(0);
-            sum += lower.saturating_sub(1);
+impl Pair {
+    /// The second's cost at a place of the first's path; 0 if it does not pass there.
+    fn cost(&self, j: &Flow, k: usize) -> u64 {
+        let at = self.places[k] as usize;
+        if at < j.length {
+            j.costs[at]
+        } else {
+            0
         }
-        sum + (p.length as u64 - 1) * self.lmax + slow - i.costs[p.length - 1]
     }
 
-    fn busy(&self, i: &Flow) -> u64 {
-        let mut b: u64 = 0;
+    /// Whether the second counts, and runs along the first on the prefix at that place.
+    fn along(&self, p: usize) -> bool {
+        matches!(self.role, Role::Higher | Role::Equal) && p < self.turn as usize
+    }
+}
+
+/// Whether j leaves i's path and meets it again, by where j's nodes stand on i's path.
+fn comes_back(i: &Flow, j: &Flow, back: &Pair) -> bool {
+    let mut on = back.places[..j.length]
+        .iter()
+        .map(|&k| (k as usize) < i.length);
+    on.any(|on| on) && on.any(|on| !on) && on.any(|on| on)
+}
+
+/// What is worked out once for a flow: Smin, M and what hangs on nothing at each place of its path, and its busy length.
+#[derive(Clone, Copy, Default)]
+struct Facts {
+    smin: [u64; NODES],
+    way: [u64; NODES],
+    base: [u64; NODES],
+    busy: u64,
+}
+
+pub struct Prepared<'a> {
+    set: &'a Set,
+    pairs: Vec<[Pair; FLOWS]>,
+    facts: [Facts; FLOWS],
+    misplaced: Option<usize>,
+}
+
+impl Prepared<'_> {
+    fn others(&self, a: usize) -> impl Iterator<Item = (&Flow, &Pair)> {
+        self.set.flows.iter().zip(&self.pairs[a])
+    }
+
+    fn misplaced(&self, a: usize) -> bool {
+        let i = &self.set.flows[a];
+        (self.set.flows.iter().enumerate())
+            .any(|(b, j)| i.priority <= j.priority && comes_back(i, j, &self.pairs[b][a]))
+    }
+
+    fn busy(&self, a: usize) -> u64 {
+        let m = self.set.flows[a].length;
+        let mut weights = [0; FLOWS];
+        for (weight, (j, pair)) in weights.iter_mut().zip(self.others(a)) {
+            if pair.role != Role::Lower {
+                *weight = (0..m).map(|k| pair.cost(j, k)).max().unwrap_or(0);
+            }
+        }
+        let mut x: u64 = 0;
         loop {
-            let mut load = b.div_ceil(i.period) * slowest(i, i);
-            for j in &self.flows {
-                if matches!(role(i, j), Role::Higher | Role::Equal) {
-                    load += b.div_ceil(j.period) * slowest(i, j);
-                }
-            }
+            let load: u64 = (self.set.flows.iter().zip(&weights))
+                .map(|(j, weight)| x.div_ceil(j.period) * weight)
+                .sum();
             let next = load.clamp(1, HORIZON + 1);
-            if next <= b {
-                return b;
+            if next <= x {
+                return x;
             }
-            b = next;
+            x = next;
+        }
+    }
+
+    fn least_cost(&self, a: usize, k: usize) -> u64 {
+        let i = &self.set.flows[a];
+        self.others(a)
+            .filter(|(j, pair)| pair.along(i.length - 1) && (pair.places[k] as usize) < j.length)
+            .map(|(j, pair)| pair.cost(j, k))
+            .fold(i.costs[k], u64::min)
+    }
+
+    fn greatest_cost(&self, a: usize, p: usize, k: usize) -> u64 {
+        self.others(a)
+            .filter(|(_, pair)| pair.along(p))
+            .map(|(j, pair)| pair.cost(j, k))
+            .fold(self.set.flows[a].costs[k], u64::max)
+    }
+
+    fn lower_cost(&self, a: usize, k: usize) -> u64 {
+        self.others(a)
+            .filter(|(_, pair)| pair.role == Role::Lower)
+            .map(|(j, pair)| pair.cost(j, k))
+            .fold(1, u64::max)
+    }
+
+    fn base(&self, a: usize, p: usize, term5: u64) -> u64 {
+        let i = &self.set.flows[a];
+        let slow = (1..=p).fold(0, |s, k| if i.costs[s] < i.costs[k] { k } else { s });
+        let term4: u64 = (0..=p)
+            .filter(|&k| k != slow)
+            .map(|k| self.greatest_cost(a, p, k))
+            .sum();
+        term4 + term5 + p as u64 * self.set.lmax + i.costs[slow] - i.costs[p]
+    }
+
+    fn note(&mut self, a: usize) {
+        let i = self.set.flows[a];
+        let (mut smin, mut way, mut term5) = (0, 0, 0);
+        for k in 0..i.length {
+            term5 += self.lower_cost(a, k) - 1;
+            self.facts[a].smin[k] = smin;
+            self.facts[a].way[k] = way;
+            self.facts[a].base[k] = self.base(a, k, term5);
+            smin += i.costs[k] + self.set.lmin;
+            way += self.set.lmin + self.least_cost(a, k);
+        }
+    }
+
+    /// Whether a bound of flow a stands in the sums of flow b.
+    fn reads(&self, b: usize, a: usize) -> bool {
+        let meets =
+            |b: usize, a: usize| (self.pairs[b][a].first as usize) < self.set.flows[b].length;
+        match self.pairs[b][a].role {
+            Role::Own => (0..self.set.flows.len())
+                .any(|c| self.pairs[b][c].role == Role::Equal && meets(b, c)),
+            Role::Higher | Role::Equal => meets(b, a),
+            Role::Lower => false,
         }
     }
 }
@@ -227,133 +279,86 @@ struct Entry {
     weight: u64,
 }
 
-/// An entry before the bounds at two places are added to `plus`.
-struct Cell {
-    entry: Entry,
-    from: usize,
-    also: usize,
-}
-
-struct Node {
-    base: u64,
-    added: u64,
-    cells: Vec<Cell>,
-}
-
-/// What is worked out once for a flow.
-struct Draft {
-    busy: u64,
-    nodes: Vec<Node>,
-    reads: Vec<bool>,
-}
-
 /// A node in one turn.
 #[derive(Clone, Copy, Default)]
 struct Block {
     base: u64,
     added: u64,
+    count: usize,
     entries: [Entry; FLOWS],
 }
 
-/// The bounds at every node of every flow, and a 0 behind them for `NOWHERE`.
-type Replies = [u64; NOWHERE + 1];
-
-const NOWHERE: usize = FLOWS * NODES;
-
-fn source(a: usize, f: &Flow, node: u8) -> usize {
-    match position(f, node) {
-        0 => NOWHERE,
-        k => a * NODES + k - 1,
+impl Block {
+    fn append(&mut self, entry: Entry) {
+        self.entries[self.count] = entry;
+        self.count += 1;
     }
 }
 
-fn lag(lmax: u64, f: &Flow, node: u8) -> u64 {
-    if position(f, node) == 0 {
-        0
-    } else {
-        lmax
-    }
-}
+/// The bounds at every node of every flow.
+type Replies = [u64; FLOWS * NODES];
 
-fn cell(set: &Set, a: usize, b: usize, p: &Flow) -> Cell {
-    let (i, j) = (&set.flows[a], &set.flows[b]);
-    let h = p.nodes[p.length - 1];
-    let mut e = Entry {
-        look: INSTANT,
-        period: j.period,
-        ..Entry::default()
-    };
-    let (mut from, mut also) = (NOWHERE, NOWHERE);
-    let (f, g) = (first_on(p, j), first_on(j, p));
-    match role(i, j) {
-        Role::Own => {
-            e.less = i.period;
-            e.weight = slowest(p, i);
+impl Prepared<'_> {
+    /// S of flow b at a place of its path.
+    fn arrival(&self, replies: &Replies, b: usize, k: usize) -> u64 {
+        match k {
+            0 => 0,
+            k => self.set.lmax + replies[b * NODES + k - 1],
         }
-        Role::Higher => {
-            let l = last_on(h, p, j);
-            e.look = if l == h { HERE } else { position(i, l) };
-            e.plus = j.jitter + lag(set.lmax, j, f);
-            e.less = set.smin(j, l) + set.way(i, f);
-            e.weight = slowest(p, j);
-            from = source(b, j, f);
+    }
+
+    /// The entries of flow b, if it is not lower, from the first place that it shares on.
+    fn write_flow(&self, sheet: &mut [Block], replies: &Replies, a: usize, b: usize) {
+        let (i, j, pair) = (&self.set.flows[a], &self.set.flows[b], &self.pairs[a][b]);
+        let first = pair.first as usize;
+        if pair.role == Role::Lower || first >= i.length {
+            return;
         }
-        Role::Equal => {
-            e.plus = j.jitter + lag(set.lmax, j, f) + lag(set.lmax, i, g);
-            e.less = i.jitter + set.smin(j, g) + set.way(i, f);
-            e.weight = slowest(p, j);
-            from = source(b, j, f);
-            also = source(a, i, g);
+        let at = |k: usize| pair.places[k] as usize;
+        let plus = j.jitter + self.arrival(replies, b, at(first));
+        let way = self.facts[a].way[first];
+        let (mut last, mut nearest, mut weight) = (first, first, 0);
+        for (p, block) in sheet.iter_mut().enumerate().skip(first) {
+            weight = pair.cost(j, p).max(weight);
+            let mut entry = Entry {
+                look: INSTANT,
+                plus: 0,
+                less: i.period,
+                period: j.period,
+                weight,
+            };
+            match pair.role {
+                Role::Higher => {
+                    if at(p) < j.length {
+                        last = p;
+                    }
+                    entry.look = if last == p { HERE } else { last };
+                    entry.plus = plus;
+                    entry.less = way + self.facts[b].smin[at(last)];
+                }
+                Role::Equal => {
+                    if at(p) < at(nearest) {
+                        nearest = p;
+                    }
+                    entry.plus = plus + self.arrival(replies, a, nearest);
+                    entry.less = i.jitter + way + self.facts[b].smin[at(nearest)];
+                }
+                Role::Own | Role::Lower => {}
+            }
+            block.append(entry);
         }
-        Role::Lower => {}
     }
-    Cell {
-        entry: e,
-        from,
-        also,
-    }
-}
 
-fn node(set: &Set, a: usize, k: usize) -> Node {
-    let i = &set.flows[a];
-    let prefix = cut(i, k + 1);
-    Node {
-        base: set.base(i, &prefix),
-        added: i.costs[k] + i.jitter,
-        cells: (0..set.flows.len())
-            .map(|b| cell(set, a, b, &prefix))
-            .collect(),
-    }
-}
-
-/// Whether a bound of j, or of i itself, stands in the sums of i.
-fn reads(set: &Set, i: &Flow, j: &Flow) -> bool {
-    match role(i, j) {
-        Role::Own => set
-            .flows
-            .iter()
-            .any(|k| role(i, k) == Role::Equal && slowest(i, k) > 0),
-        Role::Higher | Role::Equal => slowest(i, j) > 0,
-        Role::Lower => false,
-    }
-}
-
-fn draft(set: &Set, a: usize) -> Draft {
-    let i = &set.flows[a];
-    Draft {
-        busy: set.busy(i),
-        nodes: (0..i.length).map(|k| node(set, a, k)).collect(),
-        reads: set.flows.iter().map(|j| reads(set, i, j)).collect(),
-    }
-}
-
-fn fill(sheet: &mut [Block], draft: &Draft, replies: &Replies) {
-    for (block, node) in sheet.iter_mut().zip(&draft.nodes) {
-        block.base = node.base;
-        block.added = node.added;
-        for (e, cell) in block.entries.iter_mut().zip(&node.cells) {
-            *e = cell.entry;
-            e.plus += replies[cell.from] + replies[cell.also];
+    /// The sheet of flow a, with the bounds so far.
+    fn write(&self, sheet: &mut [Block], replies: &Replies, a: usize) {
+        let i = &self.set.flows[a];
+        for (p, block) in sheet.iter_mut().enumerate() {
+            block.base = self.facts[a].base[p];
+            block.added = i.costs[p] + i.jitter;
+            block.count = 0;
+        }
+        for b in 0..self.set.flows.len() {
+            self.write_flow(sheet, replies, a, b);
         }
     }
 }
@@ -369,24 +374,19 @@ fn term(e: &Entry, v: &[u64; SLOTS]) -> u64 {
     (1 + (x - e.less) / e.period) * e.weight
 }
 
-fn sum(block: &Block, v: &[u64; SLOTS], n: usize) -> u64 {
-    block.base + block.entries[..n].iter().map(|e| term(e, v)).sum::<u64>()
+fn sum(block: &Block, v: &[u64; SLOTS]) -> u64 {
+    let entries = &block.entries[..block.count];
+    block.base + entries.iter().map(|e| term(e, v)).sum::<u64>()
 }
 
 /// The starting time at node p, upwards from that of the instant tried before; none where its bound passes the horizon.
-fn start(
-    block: &Block,
-    v: &mut [u64; SLOTS],
-    p: usize,
-    n: usize,
-    counts: &mut Counts,
-) -> Option<u64> {
+fn start(block: &Block, v: &mut [u64; SLOTS], p: usize, counts: &mut Counts) -> Option<u64> {
     let last = HORIZON + v[INSTANT];
     let mut w = v[p];
     while w + block.added <= last {
         counts.sums += 1;
         v[HERE] = w;
-        let s = sum(block, v, n);
+        let s = sum(block, v);
         if s <= w {
             return Some(w);
         }
@@ -406,13 +406,13 @@ fn step_after(e: &Entry, u: u64) -> u64 {
 }
 
 /// The instant after u at which a count of the instant steps up at any node, or the end if none does before. None is nearer than u + 1.
-fn next_step(sheet: &[Block], n: usize, u: u64, end: u64) -> u64 {
+fn next_step(sheet: &[Block], u: u64, end: u64) -> u64 {
     let mut next = end;
     for block in sheet {
         if next == u + 1 {
             break;
         }
-        next = block.entries[..n]
+        next = block.entries[..block.count]
             .iter()
             .filter(|e| e.look == INSTANT && e.weight > 0)
             .fold(next, |least, e| least.min(step_after(e, u)));
@@ -420,13 +420,7 @@ fn next_step(sheet: &[Block], n: usize, u: u64, end: u64) -> u64 {
     next
 }
 
-fn responses(
-    sheet: &[Block],
-    n: usize,
-    busy: u64,
-    walk: Walk,
-    counts: &mut Counts,
-) -> Option<[u64; NODES]> {
+fn responses(sheet: &[Block], busy: u64, walk: Walk, counts: &mut Counts) -> Option<[u64; NODES]> {
     let mut v = [0u64; SLOTS];
     let mut best = [0u64; NODES];
     let mut u = 0;
@@ -434,12 +428,12 @@ fn responses(
         counts.instants += 1;
         v[INSTANT] = u;
         for (p, block) in sheet.iter().enumerate() {
-            let w = start(block, &mut v, p, n, counts)?;
+            let w = start(block, &mut v, p, counts)?;
             v[p] = w;
             best[p] = best[p].max((w + block.added).saturating_sub(u));
         }
         u = match walk {
-            Walk::Steps => next_step(sheet, n, u, busy),
+            Walk::Steps => next_step(sheet, u, busy),
             Walk::Ticks => u + 1,
         };
     }
@@ -463,42 +457,59 @@ fn choose(set: &Set, marks: &[bool], last: usize) -> Option<usize> {
 }
 
 /// The settled bounds; none where one passes the horizon.
-fn settle(set: &Set, drafts: &[Draft], walk: Walk, counts: &mut Counts) -> Option<Replies> {
-    let n = drafts.len();
+fn settle(prepared: &Prepared, walk: Walk, counts: &mut Counts) -> Option<Replies> {
+    let set = prepared.set;
+    let n = set.flows.len();
     let mut sheet = [Block::default(); NODES];
-    let mut replies = [0; NOWHERE + 1];
-    let mut marks = vec![true; n];
+    let mut replies = [0; FLOWS * NODES];
+    let mut marks = [true; FLOWS];
     let mut last = n;
-    while let Some(a) = choose(set, &marks, last) {
-        let draft = &drafts[a];
-        let m = draft.nodes.len();
+    while let Some(a) = choose(set, &marks[..n], last) {
+        let m = set.flows[a].length;
         last = a;
         marks[a] = false;
         counts.turns += 1;
-        fill(&mut sheet[..m], draft, &replies);
-        let best = responses(&sheet[..m], n, draft.busy, walk, counts)?;
+        prepared.write(&mut sheet[..m], &replies, a);
+        let best = responses(&sheet[..m], prepared.facts[a].busy, walk, counts)?;
         let mut rose = false;
         for (reply, &bound) in replies[a * NODES..].iter_mut().zip(&best[..m]) {
             rose |= *reply < bound;
             *reply = bound.max(*reply);
         }
         if rose {
-            for (mark, other) in marks.iter_mut().zip(drafts) {
-                *mark |= other.reads[a];
+            for (b, mark) in marks[..n].iter_mut().enumerate() {
+                *mark |= prepared.reads(b, a);
             }
         }
     }
     Some(replies)
 }
 
-pub struct Prepared<'a> {
-    set: &'a Set,
-    drafts: Vec<Draft>,
-}
-
 pub fn prepare(set: &Set) -> Prepared<'_> {
-    let drafts = (0..set.flows.len()).map(|a| draft(set, a)).collect();
-    Prepared { set, drafts }
+    let nothing = pair(&Flow::default(), &Flow::default());
+    let pairs = (set.flows.iter())
+        .map(|i| {
+            let mut row = [nothing; FLOWS];
+            for (noted, j) in row.iter_mut().zip(&set.flows) {
+                *noted = pair(i, j);
+            }
+            row
+        })
+        .collect();
+    let mut prepared = Prepared {
+        set,
+        pairs,
+        facts: [Facts::default(); FLOWS],
+        misplaced: None,
+    };
+    prepared.misplaced = (0..set.flows.len()).find(|&a| prepared.misplaced(a));
+    for a in 0..set.flows.len() {
+        prepared.facts[a].busy = prepared.busy(a);
+    }
+    for a in 0..set.flows.len() {
+        prepared.note(a);
+    }
+    prepared
 }
 
 /// A judgement, and the bound of each flow where they settled.
@@ -508,18 +519,22 @@ pub struct Verdict {
     pub bounds: Vec<u64>,
 }
 
-/// Answers 0 for an accepted set, otherwise number + 256 × flow; 7 is not tested.
+/// Answers 0 for an accepted set, otherwise number + 256 × flow.
 pub fn judge(prepared: &Prepared, walk: Walk, counts: &mut Counts) -> Verdict {
-    let Prepared { set, drafts } = prepared;
+    let set = prepared.set;
     let refused = |number, f: &Flow| number + 256 * f.number as u64;
     let no_bounds = |answer| Verdict {
         answer,
         bounds: Vec::new(),
     };
-    if let Some(a) = drafts.iter().position(|d| d.busy > HORIZON) {
+    if let Some(a) = prepared.misplaced {
+        return no_bounds(refused(7, &set.flows[a]));
+    }
+    let overload = (0..set.flows.len()).find(|&a| prepared.facts[a].busy > HORIZON);
+    if let Some(a) = overload {
         return no_bounds(refused(8, &set.flows[a]));
     }
-    let Some(replies) = settle(set, drafts, walk, counts) else {
+    let Some(replies) = settle(prepared, walk, counts) else {
         return no_bounds(9);
     };
     let bounds: Vec<u64> = (set.flows.iter().enumerate())

@@ -63,6 +63,34 @@ fn hall(priorities: u8, reversed: bool) -> Vec<u8> {
     bytes(1, 2, &flows)
 }
 
+/// The hall with sixteen different paths: each flow comes to the eight nodes over up to three nodes of its own, and leaves them for as many.
+fn branches(priorities: u8) -> Vec<u8> {
+    let flow = |a: u8| {
+        let (period, cost) = if a % 2 == 0 {
+            (20000, 1100)
+        } else {
+            (30000, 1400)
+        };
+        let (before, behind) = (a % 4, a / 4);
+        let node = |h: u8| {
+            if h <= before || h > 8 - behind {
+                10 + 8 * a + h
+            } else {
+                h
+            }
+        };
+        Flow {
+            number: a + 1,
+            priority: a % priorities,
+            period,
+            jitter: 0,
+            path: (1..=8).map(|h| (node(h), cost)).collect(),
+        }
+    };
+    let flows: Vec<Flow> = (0..16).map(flow).collect();
+    bytes(1, 2, &flows)
+}
+
 /// Urgent flows, and others of this cost and period over the same eight nodes, every second one backwards. At a load of 1, or nearly, the
 /// bounds of flows that go against each other rise by little at a turn, until one passes the horizon.
 fn against(urgent: u8, others: u8, cost: u16, period: u16) -> Vec<u8> {
@@ -212,6 +240,8 @@ pub fn all() -> Vec<Group> {
     vec![
         single("hall, three priorities", hall(3, false)),
         single("hall, one priority", hall(1, false)),
+        single("hall, sixteen paths, three priorities", branches(3)),
+        single("hall, sixteen paths, one priority", branches(1)),
         single("ring that settles slowly", ring(50)),
         single("hall, half of the paths reversed", hall(1, true)),
         single("sixteen, eight against eight", against(0, 16, 20, 320)),

@@ -1,21 +1,42 @@
--- The figures of each flow, one after the other. Assumes nothing.
+-- The costs of a path, and the figures of each flow, one after the other. Assumes nothing.
 use mathlib.Core.Path.{_≡_, refl, sym, ap, _∙_, subst}
 use mathlib.Core.List.{List}
 use Prim.Native.Nat.{ℕ, zero, suc, _+_, _-_, _*_, _≤_, _<_}
 use native.Mathlib.Omega.{arith}
 use native.Mathlib.Nat.{mul-le-mul}
-use lib.ListN.{length, getD, set, replicate, length-set, length-replicate}
+use lib.ListN.{length, getD, set, drop, replicate, length-take, length-set, length-replicate}
 use lib.Seq.{getD-set-same, getD-set-other}
 use borrow.Author.Count.{below-more}
 use Rattle.least.specs.Fold.{sumOf}
+use Rattle.least.proofs.Lists.{drop-next, drop-past}
+use Rattle.rules.specs.Net.{Hop}
 use Rattle.rules.specs.Formula.{least}
 use Rattle.flows.specs.declared.Flow.{Flow}
 use Rattle.flows.specs.declared.Figures.{Figures}
 use Rattle.flows.specs.declared.Row.{Row}
-use Rattle.flows.specs.Lists.{mostNodes, pathOf}
-use Rattle.starts.specs.Sheet.{values}
+use Rattle.flows.specs.Lists.{mostNodes, hopsOf, pathOf}
+use Rattle.flows.proofs.Arrays.{nowhere, length-hops, path-at}
+use Rattle.least.specs.Lists.{values}
 use Rattle.engine.specs.Verdicts.{noFigures}
-use Rattle.engine.specs.Firsts.{figureOf, placed, figureAt, FiguresUpTo}
+use Rattle.engine.specs.Firsts.{hopAt, figureOf, placed, figureAt, FiguresUpTo}
+
+-- the cost at a place
+module _ (f : Flow) (nodes : length (f .nodes) ≡ mostNodes) (costs : length (f .costs) ≡ mostNodes) (k : ℕ) (h : k < length (pathOf f)) where
+  pub place-fits : k < mostNodes
+  place-fits = omega (arith, length-take (f .length) (hopsOf (f .nodes) (f .costs)), length-hops (f .nodes) (f .costs) mostNodes nodes costs)
+
+  pub cost-read : getD (f .costs) k 0 ≡ least (hopAt f k)
+  cost-read = sym (ap (λ (q : Hop). q .cost) (path-at f nodes costs k h))
+
+-- the sum of the costs: what is left from place k, with what was gathered, is e
+module _ (f : Flow) (n k : ℕ) (len : n ≡ length (pathOf f)) (e acc : ℕ) (inv : acc + sumOf least (drop k (pathOf f)) ≡ e) where
+  pub sum-more : (x : ℕ) → k < n → x ≡ least (hopAt f k) → acc + x + sumOf least (drop (k + 1) (pathOf f)) ≡ e
+  unfolding sumOf
+  sum-more x h q = omega (arith, ap (sumOf least) (drop-next (pathOf f) k nowhere (omega arith)))
+
+  pub sum-end : n ≤ k → acc ≡ e
+  unfolding sumOf
+  sum-end h = omega (arith, ap (sumOf least) (drop-past (pathOf f) k (omega arith)))
 
 pub product-small : (l m : ℕ) → l ≤ 8 → m < 65536 → l * m ≤ 524280
 product-small l m a b = omega (arith, mul-le-mul {n₁ = l} {m₁ = m} {n₂ = 8} {m₂ = 65535} a (omega arith))

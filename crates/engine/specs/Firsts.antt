@@ -5,12 +5,13 @@ use mathlib.Core.List.{List}
 use Prim.Native.Nat.{ℕ, _+_, _-_, _*_, _≤_, _<_}
 use lib.ListN.{length, getD}
 use Rattle.least.specs.Fold.{sumOf}
+use Rattle.rules.specs.Net.{Hop}
 use Rattle.rules.specs.Formula.{least}
 use Rattle.flows.specs.declared.Flow.{Flow}
 use Rattle.flows.specs.declared.Figures.{Figures}
 use Rattle.flows.specs.declared.Row.{Row}
 use Rattle.flows.specs.Lists.{mostNodes, noFlow, pathOf, held}
-use Rattle.starts.specs.Sheet.{values}
+use Rattle.least.specs.Lists.{values}
 use lib.Dec.{ltb}
 use Rattle.flows.specs.declared.Cause.the-variants.{Accepted, PastDeadline}
 use Rattle.engine.specs.declared.Verdict.{Verdict}
@@ -21,6 +22,10 @@ pub record FirstIs (p : ℕ → Bool) (n r : ℕ) : Type 0 where
   pub most : r ≤ n
   pub before : (k : ℕ) → k < r → p k ≡ false
   pub fails : r < n → p r ≡ true
+
+-- the node and the cost at place k of the path
+abbrev pub hopAt : Flow → ℕ → Hop
+hopAt f k = getD (pathOf f) k (record { node = 0; cost = 0 })
 
 -- bound, jitter, busy length
 abbrev pub figureOf : Flow → ℕ → ℕ → ℕ → Figures

@@ -2,6 +2,9 @@
 pub mod Count
 pub mod Whole
 pub mod Fold
+pub mod Lists
+pub mod Totals
+pub mod Ranges
 pub mod Fixed
 pub mod Vector
 pub mod Instants

@@ -9,6 +9,15 @@ unfoldable pub sumTo : ℕ → (ℕ → ℕ) → ℕ
 sumTo zero f = 0
 sumTo (suc n) f = sumTo n f + f n
 
+unfoldable pub maxTo : ℕ → (ℕ → ℕ) → ℕ
+maxTo zero f = 0
+maxTo (suc n) f = max (maxTo n f) (f n)
+
+-- the least of d and the values
+unfoldable pub minTo : ℕ → ℕ → (ℕ → ℕ) → ℕ
+minTo d zero f = d
+minTo d (suc n) f = min (minTo d n f) (f n)
+
 module _ {A : Type 0} where
   unfoldable pub sumOf : (A → ℕ) → List A → ℕ
   sumOf f [] = 0

@@ -2,6 +2,7 @@
 pub mod Count
 pub mod Whole
 pub mod Fold
+pub mod Lists
 pub mod Fixed
 pub mod Vector
 pub mod Instants

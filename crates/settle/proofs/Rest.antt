@@ -1,68 +1,79 @@
 -- Turns until no flow is marked. Assumes nothing.
-use mathlib.Core.Path.{_≡_, refl, subst}
+use mathlib.Core.Path.{_≡_, subst}
 use mathlib.Core.Bool.{Bool, true, false}
+use mathlib.Core.Logic.{inl, inr}
 use mathlib.Core.List.{List}
-use Prim.Native.Nat.{ℕ, _+_, _*_, _≤_}
+use Prim.Native.Nat.{ℕ, _+_, _*_, _≤_, _<_}
 use native.Mathlib.Omega.{arith}
-use lib.ListN.{replicate, length-replicate}
+use lib.ListN.{length, List·getD-eq-default}
+use Rattle.least.specs.Lists.{values}
+use Rattle.least.proofs.Count.{le-or-lt}
 use Rattle.rules.specs.Net.{Flow, Net}
 use Rattle.rules.specs.Formula.{horizon}
 use Rattle.rules.specs.Meaning.{Here}
 use Rattle.rules.specs.Valid.{Valid}
 use Rattle.rules.specs.Ready.{Ready}
-use Rattle.starts.specs.Sheet.{mostFlows, mostNodes}
-use Rattle.sheets.specs.Setup.{Setup}
-use Rattle.sheets.proofs.Filling.{same-at, same-low, zeros}
+use Rattle.nets.specs.Nets.{countIn, roomIn, netIn}
+use Rattle.nets.proofs.Reading.{flows-length}
 use Rattle.settle.specs.Good.{Good}
-use Rattle.settle.specs.Turns.{ChosenIs, Fair, Keeps, TurnIs, SettleIs}
+use Rattle.settle.specs.Turns.{ChosenIs, Fair, BusiesAre, Keeps, TurnIs, SettleIs}
 use Rattle.settle.proofs.Steps.{good-start, good-end}
 
-module _ (nums from also lengths busies reads : List ℕ) (n : ℕ) where
-  pub record Settling (replies marks : List ℕ) (past : Bool) (a : ℕ) : Type 0 where
-    pub fair : Fair lengths n replies marks
-    pub clear : past ≡ false
-    pub chosen : ChosenIs marks n n a
-    pub good : (N : Net) → Valid N → ((i : Flow) → Here N i → Ready N i) → Setup N nums from also lengths busies reads n → Good N replies marks
+-- each number of l was set to x
+module _ (l l′ : List ℕ) (x : ℕ) (set : (k : ℕ) → k < length l → values l′ k ≡ x) (long : length l′ ≡ length l) where
+  most : (k : ℕ) → values l′ k ≤ x
+  most k = elim (le-or-lt (length l′) k) [
+    | inl h ↦ omega (arith, List·getD-eq-default l′ 0 {n = k} h)
+    | inr h ↦ omega (arith, set k (omega arith))
+  ]
 
-  pub settling-start : n ≤ mostFlows → (a : ℕ) → ChosenIs (replicate mostFlows 1) n n a → Settling (replicate 256 0) (replicate mostFlows 1) false a
-  settling-start most a chosen = record {
-    fair = record {
-      wide = length-replicate {A = ℕ} 256 0;
-      low = λ x. omega (arith, zeros 256 x);
-      bare = λ b k h q. zeros 256 (b * mostNodes + k);
-      flags = same-low 1 mostFlows;
-      long = length-replicate {A = ℕ} mostFlows 1;
-    };
-    clear = refl;
-    chosen = chosen;
-    good = λ N val ready setup.
-        good-start N val ready (replicate 256 0) (replicate mostFlows 1) (zeros 256) (λ b h z. omega (arith, setup .count, same-at 1 mostFlows b (omega (arith, setup .count))));
-  }
+module _ (net busies : List ℕ) where
+  abbrev N : Net
+  N = netIn net
 
-  module _ (replies marks : List ℕ) (past : Bool) (a : ℕ) (s : Settling replies marks past a) (past′ : Bool) (replies′ marks′ : List ℕ)
-      (turn : TurnIs nums from also lengths busies reads n replies marks a past′ replies′ marks′) (fair : Fair lengths n replies′ marks′) where
-    pub settling-past : past′ ≡ true → SettleIs nums from also lengths busies reads n true (replicate 256 0)
-    settling-past e = record {
-      outcome = λ N val ready setup. subst (λ b. Keeps N b replies′ marks′) e (turn .keeps N val ready setup (s .good N val ready setup));
-      wide = length-replicate {A = ℕ} 256 0;
-      low = λ x. omega (arith, zeros 256 x);
-      bare = λ b k h q. zeros 256 (b * mostNodes + k);
-    }
+  abbrev w : ℕ
+  w = roomIn net
 
-    pub settling-more : past′ ≡ false → (a′ : ℕ) → ChosenIs marks′ n n a′ → Settling replies′ marks′ past′ a′
-    settling-more e a′ chosen = record {
-      fair = fair;
-      clear = e;
+  pub record Settling (replies marks : List ℕ) (a : ℕ) : Type 0 where
+    pub fair : Fair net replies marks
+    pub chosen : ChosenIs marks (countIn net) (countIn net) a
+    pub good : Valid N → ((i : Flow) → Here N i → Ready N i) → BusiesAre net busies → Good N w replies marks
+
+  -- response bounds that were set to 0
+  module _ (replies₀ zeros : List ℕ) (none : (k : ℕ) → k < length replies₀ → values zeros k ≡ 0) (same : length zeros ≡ length replies₀) where
+    zero-at : (k : ℕ) → values zeros k ≡ 0
+    zero-at k = omega (arith, most replies₀ zeros 0 none same k)
+
+    pub settling-start : (marks₀ marks : List ℕ) → ((b : ℕ) → b < length marks₀ → values marks b ≡ 1) → length marks ≡ length marks₀ → countIn net ≤ length marks₀ →
+        (a : ℕ) → ChosenIs marks (countIn net) (countIn net) a → Settling zeros marks a
+    settling-start marks₀ marks all long room a chosen = record {
+      fair = record { low = λ x. omega (arith, zero-at x); bare = λ b k h q. zero-at (b * w + k); flags = most marks₀ marks 1 all long };
       chosen = chosen;
-      good = λ N val ready setup. subst (λ b. Keeps N b replies′ marks′) e (turn .keeps N val ready setup (s .good N val ready setup));
+      good = λ val ready busy. good-start N val ready w zeros marks zero-at (λ b h z. omega (arith, flows-length net, all b (omega (arith, flows-length net))));
     }
 
-  pub settling-end : (replies marks : List ℕ) (past : Bool) (a : ℕ) → Settling replies marks past a → n ≤ a → SettleIs nums from also lengths busies reads n false replies
-  unfolding horizon
-  settling-end replies marks past a s h = record {
-    outcome = λ N val ready setup.
-        good-end N val ready replies marks (s .good N val ready setup) (λ b q. s .chosen .none h b (omega (arith, setup .count))) (s .fair .low);
-    wide = s .fair .wide;
-    low = s .fair .low;
-    bare = s .fair .bare;
-  }
+    pub settling-past : (replies marks : List ℕ) (a : ℕ) → Settling replies marks a → (past : Bool) (replies′ marks′ : List ℕ) →
+        TurnIs net busies replies marks a past replies′ marks′ → past ≡ true → SettleIs net busies true zeros
+    settling-past replies marks a s past replies′ marks′ turn e = record {
+      outcome = λ val ready busy. subst (λ b. Keeps N w b replies′ marks′) e (turn .keeps val ready busy (s .good val ready busy));
+      low = λ x. omega (arith, zero-at x);
+      bare = λ b k h q. zero-at (b * w + k);
+    }
+
+  module _ (replies marks : List ℕ) (a : ℕ) (s : Settling replies marks a) where
+    pub settling-more : (past : Bool) (replies′ marks′ : List ℕ) → TurnIs net busies replies marks a past replies′ marks′ → past ≡ false → Fair net replies′ marks′ →
+        (a′ : ℕ) → ChosenIs marks′ (countIn net) (countIn net) a′ → Settling replies′ marks′ a′
+    settling-more past replies′ marks′ turn e fair a′ chosen = record {
+      fair = fair;
+      chosen = chosen;
+      good = λ val ready busy. subst (λ b. Keeps N w b replies′ marks′) e (turn .keeps val ready busy (s .good val ready busy));
+    }
+
+    pub settling-end : countIn net ≤ a → SettleIs net busies false replies
+    unfolding horizon
+    settling-end h = record {
+      outcome = λ val ready busy.
+          good-end N val ready w replies marks (s .good val ready busy) (λ b q. s .chosen .none h b (omega (arith, flows-length net))) (s .fair .low);
+      low = s .fair .low;
+      bare = s .fair .bare;
+    }

@@ -10,6 +10,7 @@ use lib.Dec.{eqb}
 use lib.ListN.{length, getD}
 use borrow.Author.Tests.{eqb-true, eqb-false}
 use Rattle.least.specs.Count.{pick}
+use Rattle.least.specs.Lists.{values}
 use Rattle.least.proofs.Fold.{max-ext}
 use Rattle.least.specs.Vector.{_⊑_}
 use Rattle.least.proofs.Vector.{underᵛ-between, underᵛ-done}
@@ -23,26 +24,25 @@ use Rattle.rules.proofs.Below.{arriving-le, arrivals-le}
 use Rattle.rules.proofs.Path.{visits-member}
 use Rattle.rules.proofs.Settle.{next-rising, responses-rise, past-none, rest-least}
 use Rattle.rules.proofs.Agree.{response-agree}
-use Rattle.paths.specs.Paths.{positionOf}
-use Rattle.paths.proofs.Places.{visits-at, position-below, position-node, position-at}
-use Rattle.starts.specs.Sheet.{mostNodes, values}
-use Rattle.sheets.specs.Fields.{noFlow, flowAt, nodeAt, responsesIn}
-use Rattle.sheets.specs.Setup.{Unread}
+use Rattle.nets.specs.Nets.{noFlow, flowAt, nodeAt, positionOf}
+use Rattle.nets.proofs.Places.{visits-at, position-below, position-node, position-at}
+use Rattle.sheets.specs.Fields.{responsesIn}
 use Rattle.sheets.proofs.Places.{flow-here, place-at}
+use Rattle.settle.specs.Reading.{Unread}
 use Rattle.settle.specs.Good.{arrivalsIn, held, due, Good, Rests}
 
 pub member-place : {A : Type 0} {x : A} {l : List A} (d : A) → List·Memᴰ x l → (k : ℕ) × (k < length l) × (getD l k d ≡ x)
 member-place d (List·Memᴰ·head e) = (0, omega arith, sym e)
 member-place d (List·Memᴰ·tail m) = let r = member-place d m in (suc (r .0), omega (arith, r .1), r .2)
 
-module _ (N : Net) (val : Valid N) (ready : (i : Flow) → Here N i → Ready N i) where
+module _ (N : Net) (val : Valid N) (ready : (i : Flow) → Here N i → Ready N i) (w : ℕ) where
   abbrev n : ℕ
   n = length (N .flows)
 
   -- flows and nodes by place
-  pub held-at : (replies : List ℕ) (b k : ℕ) → b < n → k < length (flowAt N b .path) → responsesIn N (values replies) (flowAt N b) (nodeAt (flowAt N b) k) ≡ held replies b k
+  pub held-at : (replies : List ℕ) (b k : ℕ) → b < n → k < length (flowAt N b .path) → responsesIn N w (values replies) (flowAt N b) (nodeAt (flowAt N b) k) ≡ held w replies b k
   held-at replies b k hb hk =
-      ap₂ (λ p q. values replies (p * mostNodes + q)) (place-at (N .flows) (val .rising) b hb)
+      ap₂ (λ p q. values replies (p * w + q)) (place-at (N .flows) (val .rising) b hb)
       (position-at (flowAt N b .path) (val .flows (flowAt N b) (flow-here N b hb) .distinct) k hk)
 
   by-node : (R R′ : Flow → ℕ → ℕ) (b : ℕ) → ((k : ℕ) → k < length (flowAt N b .path) → R (flowAt N b) (nodeAt (flowAt N b) k) ≤ R′ (flowAt N b) (nodeAt (flowAt N b) k)) →
@@ -65,74 +65,74 @@ module _ (N : Net) (val : Valid N) (ready : (i : Flow) → Here N i → Ready N 
   on-node b k h = visits-at (flowAt N b .path) k h
 
   -- from zero, every flow marked
-  pub good-start : (replies marks : List ℕ) → ((x : ℕ) → values replies x ≡ 0) → ((b : ℕ) → b < n → values marks b ≡ 0 → ⊥) → Good N replies marks
+  pub good-start : (replies marks : List ℕ) → ((x : ℕ) → values replies x ≡ 0) → ((b : ℕ) → b < n → values marks b ≡ 0 → ⊥) → Good N w replies marks
   good-start replies marks none all = record {
-    up = λ b k hb hk. omega (arith, none (b * mostNodes + k));
-    under = record { up = low-arrivals (arrivalsIn N replies); low = λ U h k. le-trans (low-arrivals U k) (h k) };
+    up = λ b k hb hk. omega (arith, none (b * w + k));
+    under = record { up = low-arrivals (arrivalsIn N w replies); low = λ U h k. le-trans (low-arrivals U k) (h k) };
     done = λ b k hb hk z. absurd (all b hb z);
   }
     where
-      low-arrivals : (U : Arrivals) → arrivalsIn N replies ⊑ next N U
+      low-arrivals : (U : Arrivals) → arrivalsIn N w replies ⊑ next N U
       low-arrivals U =
-          arrivals-by-place (responsesIn N (values replies)) (λ i. response N i U) (λ b k hb hk. omega (arith, held-at replies b k hb hk, none (b * mostNodes + k)))
+          arrivals-by-place (responsesIn N w (values replies)) (λ i. response N i U) (λ b k hb hk. omega (arith, held-at replies b k hb hk, none (b * w + k)))
 
-  module _ (replies marks : List ℕ) (good : Good N replies marks) where
+  module _ (replies marks : List ℕ) (good : Good N w replies marks) where
     -- a response bound past the horizon
-    pub good-past : (a k : ℕ) → a < n → k < length (flowAt N a .path) → horizon < due N replies a k → (U : Arrivals) → Settled N U → ⊥
+    pub good-past : (a k : ℕ) → a < n → k < length (flowAt N a .path) → horizon < due N w replies a k → (U : Arrivals) → Settled N U → ⊥
     good-past a k ha hk over =
-        past-none N ready (arrivalsIn N replies) (good .under) (flowAt N a) (flow-here N a ha) (nodeAt (flowAt N a) k) (on-node a k hk) over
+        past-none N ready (arrivalsIn N w replies) (good .under) (flowAt N a) (flow-here N a ha) (nodeAt (flowAt N a) k) (on-node a k hk) over
 
     -- a flow that is up to date loses its mark
-    pub good-still : (a : ℕ) (marks′ : List ℕ) → ((k : ℕ) → k < length (flowAt N a .path) → due N replies a k ≤ held replies a k) →
-        ((b : ℕ) → b < n → values marks′ b ≡ 0 → (b ≡ a) ⊎ (values marks b ≡ 0)) → Good N replies marks′
+    pub good-still : (a : ℕ) (marks′ : List ℕ) → ((k : ℕ) → k < length (flowAt N a .path) → due N w replies a k ≤ held w replies a k) →
+        ((b : ℕ) → b < n → values marks′ b ≡ 0 → (b ≡ a) ⊎ (values marks b ≡ 0)) → Good N w replies marks′
     good-still a marks′ still clear = record {
       up = good .up;
       under = good .under;
       done = λ b k hb hk z. elim (clear b hb z) [
-        | inl e ↦ subst (λ c. (k < length (flowAt N c .path)) → c < n → held replies c k ≡ due N replies c k) (sym e) (λ q r. omega (arith, still k q, good .up a k r q)) hk hb
+        | inl e ↦ subst (λ c. (k < length (flowAt N c .path)) → c < n → held w replies c k ≡ due N w replies c k) (sym e) (λ q r. omega (arith, still k q, good .up a k r q)) hk hb
         | inr y ↦ good .done b k hb hk y
       ];
     }
 
     -- a flow is raised to what is due
     module _ (a : ℕ) (ha : a < n) (replies′ : List ℕ)
-        (raised : (k : ℕ) → k < length (flowAt N a .path) → held replies′ a k ≡ due N replies a k)
-        (kept : (b k : ℕ) → b < n → k < length (flowAt N b .path) → (b ≡ a → ⊥) → held replies′ b k ≡ held replies b k) where
-      either : (b k : ℕ) → b < n → k < length (flowAt N b .path) → (held replies b k ≤ held replies′ b k) × (held replies′ b k ≤ due N replies b k)
+        (raised : (k : ℕ) → k < length (flowAt N a .path) → held w replies′ a k ≡ due N w replies a k)
+        (kept : (b k : ℕ) → b < n → k < length (flowAt N b .path) → (b ≡ a → ⊥) → held w replies′ b k ≡ held w replies b k) where
+      either : (b k : ℕ) → b < n → k < length (flowAt N b .path) → (held w replies b k ≤ held w replies′ b k) × (held w replies′ b k ≤ due N w replies b k)
       either b k hb hk = go (eqb b a) refl
         where
-          go : (t : Bool) → eqb b a ≡ t → (held replies b k ≤ held replies′ b k) × (held replies′ b k ≤ due N replies b k)
+          go : (t : Bool) → eqb b a ≡ t → (held w replies b k ≤ held w replies′ b k) × (held w replies′ b k ≤ due N w replies b k)
           go true e =
-              subst (λ c. (k < length (flowAt N c .path)) → c < n → (held replies c k ≤ held replies′ c k) × (held replies′ c k ≤ due N replies c k)) (sym (eqb-true b a e))
+              subst (λ c. (k < length (flowAt N c .path)) → c < n → (held w replies c k ≤ held w replies′ c k) × (held w replies′ c k ≤ due N w replies c k)) (sym (eqb-true b a e))
               (λ q r. (omega (arith, raised k q, good .up a k r q), omega (arith, raised k q))) hk hb
           go false e = (omega (arith, kept b k hb hk (eqb-false b a e)), omega (arith, kept b k hb hk (eqb-false b a e), good .up b k hb hk))
 
       S : Arrivals
-      S = arrivalsIn N replies
+      S = arrivalsIn N w replies
 
       S′ : Arrivals
-      S′ = arrivalsIn N replies′
+      S′ = arrivalsIn N w replies′
 
       rises : S ⊑ S′
       unfolding S S′
-      rises = arrivals-by-place (responsesIn N (values replies)) (responsesIn N (values replies′))
+      rises = arrivals-by-place (responsesIn N w (values replies)) (responsesIn N w (values replies′))
           (λ b k hb hk. omega (arith, held-at replies b k hb hk, held-at replies′ b k hb hk, either b k hb hk .0))
 
       stays : S′ ⊑ next N S
       unfolding S S′
-      stays = arrivals-by-place (responsesIn N (values replies′)) (λ i. response N i (arrivalsIn N replies))
+      stays = arrivals-by-place (responsesIn N w (values replies′)) (λ i. response N i (arrivalsIn N w replies))
           (λ b k hb hk. omega (arith, held-at replies′ b k hb hk, either b k hb hk .1))
 
-      more : (b k : ℕ) → b < n → k < length (flowAt N b .path) → due N replies b k ≤ due N replies′ b k
+      more : (b k : ℕ) → b < n → k < length (flowAt N b .path) → due N w replies b k ≤ due N w replies′ b k
       unfolding S S′
-      more b k hb hk = responses-rise N ready (arrivalsIn N replies) (arrivalsIn N replies′) rises (flowAt N b) (flow-here N b hb) (nodeAt (flowAt N b) k) (on-node b k hk)
+      more b k hb hk = responses-rise N ready (arrivalsIn N w replies) (arrivalsIn N w replies′) rises (flowAt N b) (flow-here N b hb) (nodeAt (flowAt N b) k) (on-node b k hk)
 
       -- only the arrival bounds of flow a change
-      other-flow : (b : ℕ) → b < n → (b ≡ a → ⊥) → (h : ℕ) → On (flowAt N b) h → responsesIn N (values replies) (flowAt N b) h ≡ responsesIn N (values replies′) (flowAt N b) h
+      other-flow : (b : ℕ) → b < n → (b ≡ a → ⊥) → (h : ℕ) → On (flowAt N b) h → responsesIn N w (values replies) (flowAt N b) h ≡ responsesIn N w (values replies′) (flowAt N b) h
       other-flow b hb ne h o = omega (
         arith,
-        by-node (responsesIn N (values replies)) (responsesIn N (values replies′)) b (λ k hk. omega (arith, held-at replies b k hb hk, held-at replies′ b k hb hk, kept b k hb hk ne)) h o,
-        by-node (responsesIn N (values replies′)) (responsesIn N (values replies)) b (λ k hk. omega (arith, held-at replies b k hb hk, held-at replies′ b k hb hk, kept b k hb hk ne)) h o,
+        by-node (responsesIn N w (values replies)) (responsesIn N w (values replies′)) b (λ k hk. omega (arith, held-at replies b k hb hk, held-at replies′ b k hb hk, kept b k hb hk ne)) h o,
+        by-node (responsesIn N w (values replies′)) (responsesIn N w (values replies)) b (λ k hk. omega (arith, held-at replies b k hb hk, held-at replies′ b k hb hk, kept b k hb hk ne)) h o,
       )
 
       elsewhere : (k : Key) → (k .0 ≡ flowAt N a .number → ⊥) → S k ≡ S′ k
@@ -140,23 +140,23 @@ module _ (N : Net) (val : Valid N) (ready : (i : Flow) → Here N i → Ready N 
       elsewhere k ne = max-ext _ _ (N .flows) (λ i m. go i m (eqb (i .number) (k .0)) refl)
         where
           go : (i : Flow) → Here N i → (t : Bool) → eqb (i .number) (k .0) ≡ t →
-              pick t (arriving (N .lmax) (responsesIn N (values replies) i) 0 (i .path) (k .1)) 0
-              ≡ pick t (arriving (N .lmax) (responsesIn N (values replies′) i) 0 (i .path) (k .1)) 0
+              pick t (arriving (N .lmax) (responsesIn N w (values replies) i) 0 (i .path) (k .1)) 0
+              ≡ pick t (arriving (N .lmax) (responsesIn N w (values replies′) i) 0 (i .path) (k .1)) 0
           go i m false e = refl
           go i m true e =
               let f = member-place noFlow m in
               let other : f .0 ≡ a → ⊥ = λ q. ne (sym (eqb-true (i .number) (k .0) e) ∙ ap (λ j. j .number) (sym (f .2)) ∙ ap (λ b. flowAt N b .number) q) in
-              let same : (h : ℕ) → On i h → responsesIn N (values replies) i h ≡ responsesIn N (values replies′) i h =
-              subst (λ j. (h : ℕ) → On j h → responsesIn N (values replies) j h ≡ responsesIn N (values replies′) j h) (f .2) (other-flow (f .0) (f .1) other) in
+              let same : (h : ℕ) → On i h → responsesIn N w (values replies) i h ≡ responsesIn N w (values replies′) i h =
+              subst (λ j. (h : ℕ) → On j h → responsesIn N w (values replies) j h ≡ responsesIn N w (values replies′) j h) (f .2) (other-flow (f .0) (f .1) other) in
               omega (
                 arith,
-                arriving-le (le-refl (N .lmax)) (responsesIn N (values replies) i) (responsesIn N (values replies′) i) (i .path)
+                arriving-le (le-refl (N .lmax)) (responsesIn N w (values replies) i) (responsesIn N w (values replies′) i) (i .path)
                     (λ q r. le-of-eq (same (q .node) (visits-member r))) 0 0 (le-refl 0) (k .1),
-                arriving-le (le-refl (N .lmax)) (responsesIn N (values replies′) i) (responsesIn N (values replies) i) (i .path)
+                arriving-le (le-refl (N .lmax)) (responsesIn N w (values replies′) i) (responsesIn N w (values replies) i) (i .path)
                     (λ q r. le-of-eq (sym (same (q .node) (visits-member r)))) 0 0 (le-refl 0) (k .1),
               )
 
-      pub good-raised : (marks′ : List ℕ) → ((b : ℕ) → b < n → values marks′ b ≡ 0 → ((b ≡ a) ⊎ (values marks b ≡ 0)) × Unread N b a) → Good N replies′ marks′
+      pub good-raised : (marks′ : List ℕ) → ((b : ℕ) → b < n → values marks′ b ≡ 0 → ((b ≡ a) ⊎ (values marks b ≡ 0)) × Unread N b a) → Good N w replies′ marks′
       unfolding S S′
       good-raised marks′ clear = record {
         up = λ b k hb hk. le-trans (either b k hb hk .1) (more b k hb hk);
@@ -164,24 +164,24 @@ module _ (N : Net) (val : Valid N) (ready : (i : Flow) → Here N i → Ready N 
         done = λ b k hb hk z. up-to-date b k hb hk (clear b hb z .0) ∙ same b k hb hk (clear b hb z .1);
       }
         where
-          up-to-date : (b k : ℕ) → b < n → k < length (flowAt N b .path) → (b ≡ a) ⊎ (values marks b ≡ 0) → held replies′ b k ≡ due N replies b k
-          up-to-date b k hb hk (inl e) = subst (λ c. (k < length (flowAt N c .path)) → held replies′ c k ≡ due N replies c k) (sym e) (raised k) hk
+          up-to-date : (b k : ℕ) → b < n → k < length (flowAt N b .path) → (b ≡ a) ⊎ (values marks b ≡ 0) → held w replies′ b k ≡ due N w replies b k
+          up-to-date b k hb hk (inl e) = subst (λ c. (k < length (flowAt N c .path)) → held w replies′ c k ≡ due N w replies c k) (sym e) (raised k) hk
           up-to-date b k hb hk (inr z) = omega (arith, either b k hb hk .0, either b k hb hk .1, good .done b k hb hk z)
 
-          same : (b k : ℕ) → b < n → k < length (flowAt N b .path) → Unread N b a → due N replies b k ≡ due N replies′ b k
+          same : (b k : ℕ) → b < n → k < length (flowAt N b .path) → Unread N b a → due N w replies b k ≡ due N w replies′ b k
           same b k hb hk u =
-              response-agree N (flowAt N b) (arrivalsIn N replies) (arrivalsIn N replies′) (u (arrivalsIn N replies) (arrivalsIn N replies′) elsewhere)
+              response-agree N (flowAt N b) (arrivalsIn N w replies) (arrivalsIn N w replies′) (u (arrivalsIn N w replies) (arrivalsIn N w replies′) elsewhere)
               (ready (flowAt N b) (flow-here N b hb)) (nodeAt (flowAt N b) k) (on-node b k hk)
 
     -- no flow is marked
-    pub good-end : ((b : ℕ) → b < n → values marks b ≡ 0) → ((x : ℕ) → values replies x ≤ horizon) → Rests N replies
-    good-end clear low = record { least = rest-least N ready (arrivalsIn N replies) (underᵛ-done (good .under) down) within; responses = now }
+    pub good-end : ((b : ℕ) → b < n → values marks b ≡ 0) → ((x : ℕ) → values replies x ≤ horizon) → Rests N w replies
+    good-end clear low = record { least = rest-least N ready (arrivalsIn N w replies) (underᵛ-done (good .under) down) within; responses = now }
       where
-        now : (b k : ℕ) → b < n → k < length (flowAt N b .path) → held replies b k ≡ due N replies b k
+        now : (b k : ℕ) → b < n → k < length (flowAt N b .path) → held w replies b k ≡ due N w replies b k
         now b k hb hk = good .done b k hb hk (clear b hb)
 
-        down : next N (arrivalsIn N replies) ⊑ arrivalsIn N replies
-        down = arrivals-by-place (λ i. response N i (arrivalsIn N replies)) (responsesIn N (values replies)) (λ b k hb hk. omega (arith, held-at replies b k hb hk, now b k hb hk))
+        down : next N (arrivalsIn N w replies) ⊑ arrivalsIn N w replies
+        down = arrivals-by-place (λ i. response N i (arrivalsIn N w replies)) (responsesIn N w (values replies)) (λ b k hb hk. omega (arith, held-at replies b k hb hk, now b k hb hk))
 
-        within : (i : Flow) → Here N i → (h : ℕ) → On i h → response N i (arrivalsIn N replies) h ≤ horizon
-        within = everywhere (λ i. response N i (arrivalsIn N replies)) (λ i h. horizon) (λ b k hb hk. omega (arith, now b k hb hk, low (b * mostNodes + k)))
+        within : (i : Flow) → Here N i → (h : ℕ) → On i h → response N i (arrivalsIn N w replies) h ≤ horizon
+        within = everywhere (λ i. response N i (arrivalsIn N w replies)) (λ i h. horizon) (λ b k hb hk. omega (arith, now b k hb hk, low (b * w + k)))

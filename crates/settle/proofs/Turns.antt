@@ -1,22 +1,181 @@
--- The loops that choose, mark and raise: a law for the start, for each turn and for the end. Assumes nothing.
-use mathlib.Core.Path.{_≡_, refl, _∙_, subst}
+-- The loops that raise, read, mark, choose and set: a law for the start, for each turn and for the end. Assumes nothing.
+use mathlib.Core.Path.{_≡_, refl, sym, _∙_, subst}
 use mathlib.Core.Bool.{Bool, true, false}
 use mathlib.Core.Logic.{_⊎_, inl, inr}
 use mathlib.Core.List.{List}
 use Prim.Native.Nat.{ℕ, _+_, _*_, _≤_, _<_, max}
 use native.Mathlib.Omega.{arith}
-use native.Mathlib.Nat.{le-refl}
+use native.Mathlib.Nat.{le-refl, mul-le-mul-right}
 use lib.Dec.{eqb}
-use lib.ListN.{length, set, length-set}
+use lib.ListN.{length, set, length-set, drop}
 use lib.Seq.{getD-set-same, getD-set-other}
 use borrow.Author.Count.{below-more}
-use borrow.Author.Tests.{eqb-true, eqb-false}
+use borrow.Author.Tests.{eqb-true, eqb-false, eq-eqb, ne-eqb}
+use Rattle.least.specs.Count.{pick}
+use Rattle.least.specs.Lists.{values}
+use Rattle.least.specs.Fold.{anyOf}
 use Rattle.least.proofs.Count.{le-or-lt}
-use Rattle.least.proofs.Fold.{sum-to-le, sum-to-lt}
-use Rattle.starts.specs.Sheet.{mostFlows, mostNodes, mostTime, values}
-use Rattle.starts.specs.Runs.{Low}
+use Rattle.least.proofs.Lists.{drop-next, drop-past, length-to, at-to}
+use Rattle.rules.specs.Net.{Flow}
+use Rattle.rules.specs.Formula.{Role, Own, Higher, Equal, Lower, role, higherOrEqual, crosses}
+use Rattle.nets.specs.Nets.{countIn, roomIn, lengthIn, flowIn, flowsIn, noFlow}
+use Rattle.crossings.specs.Pairs.{sideNumber}
+use Rattle.starts.specs.Sheet.{mostTime, Small}
+use Rattle.starts.specs.Runs.{LowTo}
 use Rattle.starts.proofs.Nodes.{set-cases}
-use Rattle.settle.specs.Turns.{total, RaisedIs, Flags, MarkedIs, ChosenIs}
+use Rattle.settle.specs.Reading.{equal, meetsEqual, readsOf, readsOwn, readsFlow}
+use Rattle.settle.specs.Turns.{Low, RaisedIs, MarkedIs, ChosenIs, Room}
+
+-- raising
+pub record Raising (replies best : List ℕ) (at m : ℕ) (to : List ℕ) (rose k : ℕ) : Type 0 where
+  pub few : k ≤ m
+  pub done : RaisedIs replies best at k to rose
+
+module _ (replies best : List ℕ) (at m : ℕ) where
+  pub raising-start : Low replies → Raising replies best at m replies 0 0
+  raising-start low = record {
+    few = omega arith;
+    done = record {
+      inside = λ k h. absurd (omega arith);
+      outside = λ x h. refl;
+      still = λ z k h. absurd (omega arith);
+      risen = λ z. absurd (z refl);
+      low = low;
+      long = refl;
+    };
+  }
+
+  module _ (room : at + m ≤ length replies) (low-best : LowTo m best) (to : List ℕ) (rose k : ℕ) (i : Raising replies best at m to rose k) (on : k < m)
+      (t s v : ℕ) (flat : values best k ≤ values to (at + k) → t ≡ 0) (steep : values to (at + k) < values best k → t ≡ 1)
+      (or : s ≡ max rose t) (is : v ≡ max (values to (at + k)) (values best k)) where
+    was : values to (at + k) ≡ values replies (at + k)
+    was = i .done .outside (at + k) (inr (le-refl _))
+
+    within : at + k < length to
+    within = omega (arith, i .done .long)
+
+    stored : values (set to (at + k) v) (at + k) ≡ v
+    stored = getD-set-same to (at + k) v 0 within
+
+    unstored : (x : ℕ) → (x ≡ at + k → ⊥) → values (set to (at + k) v) x ≡ values to x
+    unstored x ne = getD-set-other to (at + k) x v 0 ne
+
+    pub raising-more : Raising replies best at m (set to (at + k) v) s (k + 1)
+    raising-more = record {
+      few = omega arith;
+      done = record {
+        inside = below-more (λ j. values (set to (at + k) v) (at + j) ≡ max (values replies (at + j)) (values best j)) k
+            (λ j h. unstored (at + j) (λ e. omega arith) ∙ i .done .inside j h)
+            (omega (arith, stored, was));
+        outside = λ x h. unstored x (out x h) ∙ i .done .outside x (wider x h);
+        still = λ z. below-more (λ j. values best j ≤ values replies (at + j)) k
+            (i .done .still (omega arith))
+            (low-stored z (le-or-lt (values best k) (values to (at + k))));
+        risen = λ z. rises z (eqb rose 0) refl (le-or-lt (values best k) (values to (at + k)));
+        low = set-cases (λ x w. w ≤ mostTime) to (at + k) v within (omega (arith, i .done .low (at + k), low-best k on)) (λ j q. i .done .low j);
+        long = simp length-set (i .done .long);
+      };
+    }
+      where
+        out : (x : ℕ) → (x < at) ⊎ (at + (k + 1) ≤ x) → x ≡ at + k → ⊥
+        out x (inl h) e = omega arith
+        out x (inr h) e = omega arith
+
+        wider : (x : ℕ) → (x < at) ⊎ (at + (k + 1) ≤ x) → (x < at) ⊎ (at + k ≤ x)
+        wider x (inl h) = inl h
+        wider x (inr h) = inr (omega arith)
+
+        low-stored : s ≡ 0 → (values best k ≤ values to (at + k)) ⊎ (values to (at + k) < values best k) → values best k ≤ values replies (at + k)
+        low-stored z (inl h) = omega (arith, was)
+        low-stored z (inr h) = absurd (omega (arith, steep h))
+
+        rises : (s ≡ 0 → ⊥) → (b : Bool) → eqb rose 0 ≡ b → (values best k ≤ values to (at + k)) ⊎ (values to (at + k) < values best k) →
+            (j : ℕ) × (j < k + 1) × (values replies (at + j) < values best j)
+        rises z true e (inl h) = absurd (z (omega (arith, flat h, eqb-true rose 0 e)))
+        rises z true e (inr h) = (k, omega arith, omega (arith, was))
+        rises z false e q = let r = i .done .risen (eqb-false rose 0 e) in (r .0, omega (arith, r .1), r .2)
+
+  pub raising-end : (to : List ℕ) (rose k : ℕ) → Raising replies best at m to rose k → m ≤ k → RaisedIs replies best at m to rose
+  raising-end to rose k i h = let e : k ≡ m = omega (arith, i .few) in subst (λ j. RaisedIs replies best at j to rose) e (i .done)
+
+-- reading, by the side that is noted
+equal-side : (x : Role) → sideNumber x ≡ 2 → equal x ≡ true
+equal-side Own e = absurd (omega arith)
+equal-side Higher e = absurd (omega arith)
+equal-side Equal e = refl
+equal-side Lower e = absurd (omega arith)
+
+unequal-side : (x : Role) → (sideNumber x ≡ 2 → ⊥) → equal x ≡ false
+unequal-side Own e = refl
+unequal-side Higher e = refl
+unequal-side Equal e = absurd (e refl)
+unequal-side Lower e = refl
+
+own-side : (x : Role) → sideNumber x ≡ 0 → higherOrEqual x ≡ false
+own-side Own e = refl
+own-side Higher e = absurd (omega arith)
+own-side Equal e = absurd (omega arith)
+own-side Lower e = refl
+
+lower-side : (x : Role) → sideNumber x ≡ 3 → higherOrEqual x ≡ false
+lower-side Own e = refl
+lower-side Higher e = absurd (omega arith)
+lower-side Equal e = absurd (omega arith)
+lower-side Lower e = refl
+
+other-side : (x : Role) → (sideNumber x ≡ 0 → ⊥) → (sideNumber x ≡ 3 → ⊥) → higherOrEqual x ≡ true
+other-side Own e f = absurd (e refl)
+other-side Higher e f = refl
+other-side Equal e f = refl
+other-side Lower e f = absurd (f refl)
+
+module _ (i j : Flow) (side : ℕ) (is : side ≡ sideNumber (role i j)) where
+  pub equal-meets : side ≡ 2 → meetsEqual i j ≡ crosses (i .path) (j .path)
+  equal-meets e = rw (equal-side (role i j) (sym is ∙ e))
+
+  pub unequal-meets : (side ≡ 2 → ⊥) → meetsEqual i j ≡ false
+  unequal-meets e = rw (unequal-side (role i j) (λ q. e (is ∙ q)))
+
+  pub own-unread : side ≡ 0 → readsOf i j ≡ false
+  unfolding readsOf
+  own-unread e = rw (own-side (role i j) (sym is ∙ e))
+
+  pub lower-unread : side ≡ 3 → readsOf i j ≡ false
+  unfolding readsOf
+  lower-unread e = rw (lower-side (role i j) (sym is ∙ e))
+
+  pub other-read : (side ≡ 0 → ⊥) → (side ≡ 3 → ⊥) → readsOf i j ≡ crosses (i .path) (j .path)
+  unfolding readsOf
+  other-read e f = rw (other-side (role i j) (λ q. e (is ∙ q)) (λ q. f (is ∙ q)))
+
+module _ (net : List ℕ) (b a : ℕ) where
+  pub reads-itself : b ≡ a → readsFlow net b a ≡ readsOwn net a
+  unfolding readsFlow
+  reads-itself e = rw (eq-eqb b a e)
+
+  pub reads-another : (b ≡ a → ⊥) → readsFlow net b a ≡ readsOf (flowIn net b) (flowIn net a)
+  unfolding readsFlow
+  reads-another e = rw (ne-eqb b a e)
+
+-- what is left to look at decides
+abbrev pub Looking : List ℕ → ℕ → ℕ → Type 0
+Looking net a b = readsOwn net a ≡ anyOf (meetsEqual (flowIn net a)) (drop b (flowsIn net))
+
+module _ (net : List ℕ) (a b : ℕ) where
+  looking-on : b < countIn net → anyOf (meetsEqual (flowIn net a)) (drop b (flowsIn net)) ≡
+      pick (meetsEqual (flowIn net a) (flowIn net b)) true (anyOf (meetsEqual (flowIn net a)) (drop (b + 1) (flowsIn net)))
+  unfolding anyOf flowsIn
+  looking-on h = rw (drop-next (flowsIn net) b noFlow (omega (arith, length-to (flowIn net) (countIn net))), at-to (flowIn net) (countIn net) b noFlow h)
+
+  pub looking-met : b < countIn net → Looking net a b → meetsEqual (flowIn net a) (flowIn net b) ≡ true → readsOwn net a ≡ true
+  looking-met h i e = i ∙ looking-on h ∙ rw e
+
+  pub looking-next : b < countIn net → Looking net a b → meetsEqual (flowIn net a) (flowIn net b) ≡ false → Looking net a (b + 1)
+  looking-next h i e = i ∙ looking-on h ∙ rw e
+
+  pub looking-end : countIn net ≤ b → Looking net a b → readsOwn net a ≡ false
+  unfolding anyOf flowsIn
+  looking-end h i = i ∙ rw (drop-past (flowsIn net) b (omega (arith, length-to (flowIn net) (countIn net))))
 
 -- choosing
 module _ (marks : List ℕ) (n : ℕ) where
@@ -31,9 +190,6 @@ module _ (marks : List ℕ) (n : ℕ) where
       none = λ h. below-more (λ k. values marks k ≡ 0) b (i .none h) z;
     }
 
-    pub chosen-next : (values marks b ≡ 0 → ⊥) → ChosenIs marks n b c → ChosenIs marks n (b + 1) b
-    chosen-next z i = record { most = omega arith; marked = λ h. z; none = λ h k q. absurd (omega arith) }
-
     pub chosen-still : c < n → ChosenIs marks n b c → ChosenIs marks n (b + 1) c
     chosen-still h i = record { most = i .most; marked = i .marked; none = λ q k r. absurd (omega arith) }
 
@@ -41,134 +197,63 @@ pub chosen-end : (marks : List ℕ) (n b c : ℕ) → ChosenIs marks n b c → n
 chosen-end marks n b c i h = record { most = i .most; marked = i .marked; none = λ q k r. i .none q k (omega arith) }
 
 -- marking
-pub record Marking (marks reads : List ℕ) (a : ℕ) (to : List ℕ) (b : ℕ) : Type 0 where
-  pub few : b ≤ mostFlows
-  pub done : MarkedIs marks reads a b to
+pub record Marking (marks net : List ℕ) (a n : ℕ) (to : List ℕ) (b : ℕ) : Type 0 where
+  pub few : b ≤ n
+  pub done : MarkedIs marks net a b to
 
-module _ (marks reads : List ℕ) (a : ℕ) where
-  pub marking-start : length marks ≡ mostFlows → Flags marks → Marking marks reads a marks 0
-  marking-start long flags = record {
+module _ (marks net : List ℕ) (a n : ℕ) where
+  pub marking-start : Marking marks net a n marks 0
+  marking-start = record {
     few = omega arith;
-    done = record { unread = λ b h z. refl; read = λ b h z. absurd (omega arith); rest = λ b h. refl; flags = flags; long = long };
+    done = record { unread = λ b h z. refl; read = λ b h z. absurd (omega arith); rest = λ b h. refl; long = refl };
   }
 
-  module _ (to : List ℕ) (b : ℕ) (m : Marking marks reads a to b) (on : b < mostFlows) (v : ℕ)
-      (kept : values reads (b * mostFlows + a) ≡ 0 → v ≡ values to b) (new : (values reads (b * mostFlows + a) ≡ 0 → ⊥) → v ≡ 1) where
+  module _ (room : n ≤ length marks) (to : List ℕ) (b : ℕ) (m : Marking marks net a n to b) (on : b < n) (v : ℕ)
+      (kept : readsFlow net b a ≡ false → v ≡ values to b) (new : readsFlow net b a ≡ true → v ≡ 1) where
     here : values (set to b v) b ≡ v
     here = getD-set-same to b v 0 (omega (arith, m .done .long))
 
     there : (k : ℕ) → (k ≡ b → ⊥) → values (set to b v) k ≡ values to k
     there k ne = getD-set-other to b k v 0 ne
 
-    small : v ≤ 1
-    small = go (eqb (values reads (b * mostFlows + a)) 0) refl
-      where
-        go : (t : Bool) → eqb (values reads (b * mostFlows + a)) 0 ≡ t → v ≤ 1
-        go true e = omega (arith, kept (eqb-true _ 0 e), m .done .flags b)
-        go false e = omega (arith, new (eqb-false _ 0 e))
-
-    pub marking-more : Marking marks reads a (set to b v) (b + 1)
+    pub marking-more : Marking marks net a n (set to b v) (b + 1)
     marking-more = record {
       few = omega arith;
       done = record {
-        unread = below-more (λ k. values reads (k * mostFlows + a) ≡ 0 → values (set to b v) k ≡ values marks k) b
+        unread = below-more (λ k. readsFlow net k a ≡ false → values (set to b v) k ≡ values marks k) b
             (λ k h z. there k (λ e. omega arith) ∙ m .done .unread k h z)
             (λ z. here ∙ kept z ∙ m .done .rest b (le-refl b));
-        read = below-more (λ k. (values reads (k * mostFlows + a) ≡ 0 → ⊥) → values (set to b v) k ≡ 1) b
+        read = below-more (λ k. readsFlow net k a ≡ true → values (set to b v) k ≡ 1) b
             (λ k h z. there k (λ e. omega arith) ∙ m .done .read k h z)
             (λ z. here ∙ new z);
         rest = λ k h. there k (λ e. omega arith) ∙ m .done .rest k (omega arith);
-        flags = set-cases (λ j w. w ≤ 1) to b v (omega (arith, m .done .long)) small (λ j q. m .done .flags j);
         long = simp length-set (m .done .long);
       };
     }
 
-  pub marking-end : (to : List ℕ) (b : ℕ) → Marking marks reads a to b → mostFlows ≤ b → MarkedIs marks reads a mostFlows to
-  marking-end to b m h = let e : b ≡ mostFlows = omega (arith, m .few) in subst (λ k. MarkedIs marks reads a k to) e (m .done)
+  pub marking-end : (to : List ℕ) (b : ℕ) → Marking marks net a n to b → n ≤ b → MarkedIs marks net a n to
+  marking-end to b m h = let e : b ≡ n = omega (arith, m .few) in subst (λ k. MarkedIs marks net a k to) e (m .done)
 
--- raising
-pub record Raising (replies best : List ℕ) (a m : ℕ) (to : List ℕ) (rose k : ℕ) : Type 0 where
-  pub few : k ≤ m
-  pub done : RaisedIs replies best a k to rose
+-- setting
+pub set-more : (l : List ℕ) (k x : ℕ) → k < length l → ((j : ℕ) → j < k → values l j ≡ x) → (j : ℕ) → j < k + 1 → values (set l k x) j ≡ x
+set-more l k x h z =
+    below-more (λ j. values (set l k x) j ≡ x) k (λ j q. getD-set-other l k j x 0 (λ e. omega arith) ∙ z j q) (getD-set-same l k x 0 h)
 
-module _ (replies best : List ℕ) (a m : ℕ) (first : a < mostFlows) (most : m ≤ mostNodes) where
-  pub raising-start : length replies ≡ 256 → Low replies → Raising replies best a m replies 0 0
-  raising-start wide low = record {
-    few = omega arith;
-    done = record {
-      inside = λ k h. absurd (omega arith);
-      outside = λ x h. refl;
-      still = λ z k h. absurd (omega arith);
-      grows = le-refl _;
-      risen = λ z. absurd (z refl);
-      low = low;
-      wide = wide;
-    };
+-- room
+module _ {net busies replies marks sheet slots best : List ℕ} (room : Room net busies replies marks sheet slots best) where
+  pub sheet-fits : (a : ℕ) → 1 + lengthIn net a * (3 + 5 * countIn net) ≤ length sheet
+  sheet-fits a = omega (arith, room .sheet-long, mul-le-mul-right {m = lengthIn net a} {n = roomIn net} (3 + 5 * countIn net) (omega arith))
+
+  pub room-kept : {replies′ marks′ sheet′ slots′ best′ : List ℕ} → length replies′ ≡ length replies → length marks′ ≡ length marks → length sheet′ ≡ length sheet →
+      length slots′ ≡ length slots → length best′ ≡ length best → Small sheet′ → Small slots′ → Room net busies replies′ marks′ sheet′ slots′ best′
+  room-kept r m e s b small small′ = record {
+    busies-long = room .busies-long;
+    replies-long = rw r (room .replies-long);
+    marks-long = rw m (room .marks-long);
+    sheet-long = rw e (room .sheet-long);
+    sheet-short = rw e (room .sheet-short);
+    sheet-small = small;
+    slots-long = rw s (room .slots-long);
+    slots-small = small′;
+    best-long = rw b (room .best-long);
   }
-
-  module _ (to : List ℕ) (rose k : ℕ) (i : Raising replies best a m to rose k) (on : k < m) (low-best : Low best)
-      (t s v : ℕ) (flat : values best k ≤ values to (a * mostNodes + k) → t ≡ 0) (steep : values to (a * mostNodes + k) < values best k → t ≡ 1)
-      (or : s ≡ max rose t) (is : v ≡ max (values to (a * mostNodes + k)) (values best k)) where
-    at : ℕ
-    at = a * mostNodes + k
-
-    was : values to at ≡ values replies at
-    unfolding at
-    was = i .done .outside (a * mostNodes + k) (inr (le-refl _))
-
-    stored : values (set to at v) at ≡ v
-    unfolding at
-    stored = getD-set-same to at v 0 (omega (arith, i .done .wide))
-
-    unstored : (x : ℕ) → (x ≡ at → ⊥) → values (set to at v) x ≡ values to x
-    unstored x ne = getD-set-other to at x v 0 ne
-
-    each : (x : ℕ) → values to x ≤ values (set to at v) x
-    unfolding at
-    each = set-cases (λ x w. values to x ≤ w) to at v (omega (arith, i .done .wide)) (omega arith) (λ j q. le-refl _)
-
-    more : total to ≤ total (set to at v)
-    more = sum-to-le 128 (values to) (values (set to at v)) (λ x q. each x)
-
-    higher : values to at < values best k → total to < total (set to at v)
-    unfolding at
-    higher h = sum-to-lt 128 at (values to) (values (set to at v)) (omega arith) (λ x q. each x) (omega (arith, stored))
-
-    pub raising-more : Raising replies best a m (set to (a * mostNodes + k) v) s (k + 1)
-    unfolding at
-    raising-more = record {
-      few = omega arith;
-      done = record {
-        inside = below-more (λ j. values (set to at v) (a * mostNodes + j) ≡ max (values replies (a * mostNodes + j)) (values best j)) k
-            (λ j h. unstored (a * mostNodes + j) (λ e. omega arith) ∙ i .done .inside j h)
-            (omega (arith, stored, was));
-        outside = λ x h. unstored x (out x h) ∙ i .done .outside x (wider x h);
-        still = λ z. below-more (λ j. values best j ≤ values replies (a * mostNodes + j)) k
-            (i .done .still (omega arith))
-            (low-stored z (le-or-lt (values best k) (values to at)));
-        grows = omega (arith, more, i .done .grows);
-        risen = λ z. rises z (eqb rose 0) refl (le-or-lt (values best k) (values to at));
-        low = set-cases (λ x w. w ≤ mostTime) to at v (omega (arith, i .done .wide)) (omega (arith, i .done .low at, low-best k)) (λ j q. i .done .low j);
-        wide = simp length-set (i .done .wide);
-      };
-    }
-      where
-        out : (x : ℕ) → (x < a * mostNodes) ⊎ (a * mostNodes + (k + 1) ≤ x) → x ≡ at → ⊥
-        out x (inl h) e = omega arith
-        out x (inr h) e = omega arith
-
-        wider : (x : ℕ) → (x < a * mostNodes) ⊎ (a * mostNodes + (k + 1) ≤ x) → (x < a * mostNodes) ⊎ (a * mostNodes + k ≤ x)
-        wider x (inl h) = inl h
-        wider x (inr h) = inr (omega arith)
-
-        low-stored : s ≡ 0 → (values best k ≤ values to at) ⊎ (values to at < values best k) → values best k ≤ values replies at
-        low-stored z (inl h) = omega (arith, was)
-        low-stored z (inr h) = absurd (omega (arith, steep h))
-
-        rises : (s ≡ 0 → ⊥) → (b : Bool) → eqb rose 0 ≡ b → (values best k ≤ values to at) ⊎ (values to at < values best k) → total replies < total (set to at v)
-        rises z true e (inl h) = absurd (z (omega (arith, flat h, eqb-true rose 0 e)))
-        rises z true e (inr h) = omega (arith, higher h, i .done .grows)
-        rises z false e q = omega (arith, more, i .done .risen (eqb-false rose 0 e))
-
-  pub raising-end : (to : List ℕ) (rose k : ℕ) → Raising replies best a m to rose k → m ≤ k → RaisedIs replies best a m to rose
-  raising-end to rose k i h = let e : k ≡ m = omega (arith, i .few) in subst (λ j. RaisedIs replies best a j to rose) e (i .done)

@@ -10,31 +10,32 @@ use Rattle.rules.specs.Formula.{Arrivals, arrivals}
 use Rattle.rules.specs.Meaning.{Settled, LeastSettled}
 use Rattle.rules.specs.Judge.{response}
 use Rattle.rules.specs.Ready.{next}
-use Rattle.starts.specs.Sheet.{mostNodes, values}
-use Rattle.sheets.specs.Fields.{flowAt, nodeAt, responsesIn}
+use Rattle.least.specs.Lists.{values}
+use Rattle.nets.specs.Nets.{flowAt, nodeAt}
+use Rattle.sheets.specs.Fields.{responsesIn}
 
--- the arrival bounds that response bounds give
-abbrev pub arrivalsIn : Net → List ℕ → Arrivals
-arrivalsIn N replies = arrivals N (responsesIn N (values replies))
+-- the arrival bounds that response bounds give; w is the room for nodes that each flow has
+abbrev pub arrivalsIn : Net → ℕ → List ℕ → Arrivals
+arrivalsIn N w replies = arrivals N (responsesIn N w (values replies))
 
--- the response bound of flow b at node k, and what it would be with the arrival bounds so far
-abbrev pub held : List ℕ → ℕ → ℕ → ℕ
-held replies b k = values replies (b * mostNodes + k)
+-- the response bound of flow b at place k, and what it would be with the arrival bounds so far
+abbrev pub held : ℕ → List ℕ → ℕ → ℕ → ℕ
+held w replies b k = values replies (b * w + k)
 
-abbrev pub due : Net → List ℕ → ℕ → ℕ → ℕ
-due N replies b k = response N (flowAt N b) (arrivalsIn N replies) (nodeAt (flowAt N b) k)
+abbrev pub due : Net → ℕ → List ℕ → ℕ → ℕ → ℕ
+due N w replies b k = response N (flowAt N b) (arrivalsIn N w replies) (nodeAt (flowAt N b) k)
 
 -- none above what it would be, none of the arrival bounds above a settled one, and each flow without a mark up to date
-pub record Good (N : Net) (replies marks : List ℕ) : Type 0 where
-  pub up : (b k : ℕ) → b < length (N .flows) → k < length (flowAt N b .path) → held replies b k ≤ due N replies b k
-  pub under : Underᵛ (next N) (arrivalsIn N replies)
-  pub done : (b k : ℕ) → b < length (N .flows) → k < length (flowAt N b .path) → values marks b ≡ 0 → held replies b k ≡ due N replies b k
+pub record Good (N : Net) (w : ℕ) (replies marks : List ℕ) : Type 0 where
+  pub up : (b k : ℕ) → b < length (N .flows) → k < length (flowAt N b .path) → held w replies b k ≤ due N w replies b k
+  pub under : Underᵛ (next N) (arrivalsIn N w replies)
+  pub done : (b k : ℕ) → b < length (N .flows) → k < length (flowAt N b .path) → values marks b ≡ 0 → held w replies b k ≡ due N w replies b k
 
 -- the end: there are no settled arrival bounds; or these are the least, and these the response bounds with them
-pub record Rests (N : Net) (replies : List ℕ) : Type 0 where
-  pub least : LeastSettled N (arrivalsIn N replies)
-  pub responses : (b k : ℕ) → b < length (N .flows) → k < length (flowAt N b .path) → held replies b k ≡ due N replies b k
+pub record Rests (N : Net) (w : ℕ) (replies : List ℕ) : Type 0 where
+  pub least : LeastSettled N (arrivalsIn N w replies)
+  pub responses : (b k : ℕ) → b < length (N .flows) → k < length (flowAt N b .path) → held w replies b k ≡ due N w replies b k
 
-abbrev pub Outcome : Net → Bool → List ℕ → Type 0
-Outcome N true replies = (S : Arrivals) → Settled N S → ⊥
-Outcome N false replies = Rests N replies
+abbrev pub Outcome : Net → ℕ → Bool → List ℕ → Type 0
+Outcome N w true replies = (S : Arrivals) → Settled N S → ⊥
+Outcome N w false replies = Rests N w replies

@@ -7,41 +7,41 @@ use Prim.Native.Nat.{ℕ, _+_, _-_, _*_, _≤_, _<_, max}
 use lib.ListN.{length}
 use Rattle.least.specs.Count.{pick}
 use Rattle.least.specs.Fold.{sumTo}
-use Rattle.starts.specs.Sheet.{mostFlows, mostNodes, values}
-use Rattle.starts.specs.Runs.{Low}
-use Rattle.sheets.specs.Setup.{Setup}
+use Rattle.least.specs.Lists.{values}
 use Rattle.rules.specs.Net.{Flow, Net}
 use Rattle.rules.specs.Formula.{Arrivals}
 use Rattle.rules.specs.Meaning.{Here, Settled}
 use Rattle.rules.specs.Valid.{Valid}
+use Rattle.rules.specs.Judge.{busyLength}
 use Rattle.rules.specs.Ready.{Ready}
+use Rattle.nets.specs.Nets.{countIn, roomIn, lengthIn, flowIn, netIn}
+use Rattle.starts.specs.Sheet.{mostTime, Small}
+use Rattle.settle.specs.Reading.{readsFlow}
 use Rattle.settle.specs.Good.{held, Good, Outcome}
 
--- all response bounds together
-abbrev pub total : List ℕ → ℕ
-total replies = sumTo 128 (values replies)
+-- response bounds within the horizon
+abbrev pub Low : List ℕ → Type 0
+Low l = (k : ℕ) → values l k ≤ mostTime
 
--- flow a's raised to best at m nodes, the others as they were; rose tells whether one rose
-pub record RaisedIs (replies best : List ℕ) (a m : ℕ) (replies′ : List ℕ) (rose : ℕ) : Type 0 where
-  pub inside : (k : ℕ) → k < m → values replies′ (a * mostNodes + k) ≡ max (values replies (a * mostNodes + k)) (values best k)
-  pub outside : (x : ℕ) → (x < a * mostNodes) ⊎ (a * mostNodes + m ≤ x) → values replies′ x ≡ values replies x
-  pub still : rose ≡ 0 → (k : ℕ) → k < m → values best k ≤ values replies (a * mostNodes + k)
-  pub grows : total replies ≤ total replies′
-  pub risen : (rose ≡ 0 → ⊥) → total replies < total replies′
+-- all response bounds together, at that many places
+abbrev pub total : ℕ → List ℕ → ℕ
+total size replies = sumTo size (values replies)
+
+-- those at m places raised to best, the others as they were; rose tells whether one rose
+pub record RaisedIs (replies best : List ℕ) (at m : ℕ) (replies′ : List ℕ) (rose : ℕ) : Type 0 where
+  pub inside : (k : ℕ) → k < m → values replies′ (at + k) ≡ max (values replies (at + k)) (values best k)
+  pub outside : (x : ℕ) → (x < at) ⊎ (at + m ≤ x) → values replies′ x ≡ values replies x
+  pub still : rose ≡ 0 → (k : ℕ) → k < m → values best k ≤ values replies (at + k)
+  pub risen : (rose ≡ 0 → ⊥) → (k : ℕ) × (k < m) × (values replies (at + k) < values best k)
   pub low : Low replies′
-  pub wide : length replies′ ≡ 256
-
--- marks are 0 or 1
-abbrev pub Flags : List ℕ → Type 0
-Flags marks = (b : ℕ) → values marks b ≤ 1
+  pub long : length replies′ ≡ length replies
 
 -- of the flows below n: marked if it reads flow a, otherwise as it was; the others as they were
-pub record MarkedIs (marks reads : List ℕ) (a n : ℕ) (marks′ : List ℕ) : Type 0 where
-  pub unread : (b : ℕ) → b < n → values reads (b * mostFlows + a) ≡ 0 → values marks′ b ≡ values marks b
-  pub read : (b : ℕ) → b < n → (values reads (b * mostFlows + a) ≡ 0 → ⊥) → values marks′ b ≡ 1
+pub record MarkedIs (marks net : List ℕ) (a n : ℕ) (marks′ : List ℕ) : Type 0 where
+  pub unread : (b : ℕ) → b < n → readsFlow net b a ≡ false → values marks′ b ≡ values marks b
+  pub read : (b : ℕ) → b < n → readsFlow net b a ≡ true → values marks′ b ≡ 1
   pub rest : (b : ℕ) → n ≤ b → values marks′ b ≡ values marks b
-  pub flags : Flags marks′
-  pub long : length marks′ ≡ mostFlows
+  pub long : length marks′ ≡ length marks
 
 -- among the flows below m: a marked one, or n if none is
 pub record ChosenIs (marks : List ℕ) (n m r : ℕ) : Type 0 where
@@ -49,39 +49,48 @@ pub record ChosenIs (marks : List ℕ) (n m r : ℕ) : Type 0 where
   pub marked : r < n → values marks r ≡ 0 → ⊥
   pub none : n ≤ r → (b : ℕ) → b < m → values marks b ≡ 0
 
--- path lengths that fit
-abbrev pub Short : List ℕ → Type 0
-Short lengths = (a : ℕ) → values lengths a ≤ mostNodes
+-- what is lent has room
+pub record Room (net busies replies marks sheet slots best : List ℕ) : Type 0 where
+  pub busies-long : countIn net ≤ length busies
+  pub replies-long : countIn net * roomIn net ≤ length replies
+  pub marks-long : countIn net ≤ length marks
+  pub sheet-long : 1 + roomIn net * (3 + 5 * countIn net) ≤ length sheet
+  pub sheet-short : length sheet ≤ 16777216
+  pub sheet-small : Small sheet
+  pub slots-long : roomIn net + 2 ≤ length slots
+  pub slots-small : Small slots
+  pub best-long : roomIn net ≤ length best
 
--- zeros in the places that none of n flows has: behind the end of its path, and of flows from n on
+-- zeros in the places that no flow has: behind the end of its path, and of flows from n on
 abbrev pub Bare : List ℕ → ℕ → List ℕ → Type 0
-Bare lengths n replies = (b k : ℕ) → k < mostNodes → (n ≤ b) ⊎ (values lengths b ≤ k) → held replies b k ≡ 0
+Bare net n replies = (b k : ℕ) → k < roomIn net → (n ≤ b) ⊎ (lengthIn net b ≤ k) → held (roomIn net) replies b k ≡ 0
 
 -- what holds of any state: response bounds within the horizon, none where no flow has one, marks 0 or 1
-pub record Fair (lengths : List ℕ) (n : ℕ) (replies marks : List ℕ) : Type 0 where
-  pub wide : length replies ≡ 256
+pub record Fair (net replies marks : List ℕ) : Type 0 where
   pub low : Low replies
-  pub bare : Bare lengths n replies
-  pub flags : Flags marks
-  pub long : length marks ≡ mostFlows
+  pub bare : Bare net (countIn net) replies
+  pub flags : (b : ℕ) → values marks b ≤ 1
 
 -- what is left to do: falls with each turn
-abbrev pub left : List ℕ → List ℕ → ℕ
-left replies marks = (8388480 - total replies) * 17 + sumTo mostFlows (values marks)
+abbrev pub left : List ℕ → List ℕ → List ℕ → ℕ
+left net replies marks =
+    (countIn net * roomIn net * mostTime - total (countIn net * roomIn net) replies) * (countIn net + 1) + sumTo (countIn net) (values marks)
 
--- Of a net for which everything is set up: a good state stays good, or there are no settled arrival bounds.
-abbrev pub Keeps : Net → Bool → List ℕ → List ℕ → Type 0
-Keeps N true replies marks = (S : Arrivals) → Settled N S → ⊥
-Keeps N false replies marks = Good N replies marks
+abbrev pub BusiesAre : List ℕ → List ℕ → Type 0
+BusiesAre net busies = (a : ℕ) → a < countIn net → values busies a ≡ busyLength (netIn net) (flowIn net a)
 
-pub record TurnIs (nums from also lengths busies reads : List ℕ) (n : ℕ) (replies marks : List ℕ) (a : ℕ) (past : Bool) (replies′ marks′ : List ℕ) : Type 0 where
-  pub falls : past ≡ false → (values marks a ≡ 0 → ⊥) → left replies′ marks′ < left replies marks
-  pub keeps : (N : Net) → Valid N → ((i : Flow) → Here N i → Ready N i) → Setup N nums from also lengths busies reads n → Good N replies marks →
-      Keeps N past replies′ marks′
+-- Of a valid set with busy lengths: a good state stays good, or there are no settled arrival bounds.
+abbrev pub Keeps : Net → ℕ → Bool → List ℕ → List ℕ → Type 0
+Keeps N w true replies marks = (S : Arrivals) → Settled N S → ⊥
+Keeps N w false replies marks = Good N w replies marks
 
--- of a net for which everything is set up: the outcome; of any, zeros in the places that no flow has, and past the horizon zeros alone
-pub record SettleIs (nums from also lengths busies reads : List ℕ) (n : ℕ) (past : Bool) (replies : List ℕ) : Type 0 where
-  pub outcome : (N : Net) → Valid N → ((i : Flow) → Here N i → Ready N i) → Setup N nums from also lengths busies reads n → Outcome N past replies
-  pub wide : length replies ≡ 256
+pub record TurnIs (net busies replies marks : List ℕ) (a : ℕ) (past : Bool) (replies′ marks′ : List ℕ) : Type 0 where
+  pub falls : past ≡ false → (values marks a ≡ 0 → ⊥) → left net replies′ marks′ < left net replies marks
+  pub keeps : Valid (netIn net) → ((i : Flow) → Here (netIn net) i → Ready (netIn net) i) → BusiesAre net busies →
+      Good (netIn net) (roomIn net) replies marks → Keeps (netIn net) (roomIn net) past replies′ marks′
+
+-- of a valid set with busy lengths: the outcome; of any, zeros in the places that no flow has, and past the horizon zeros alone
+pub record SettleIs (net busies : List ℕ) (past : Bool) (replies : List ℕ) : Type 0 where
+  pub outcome : Valid (netIn net) → ((i : Flow) → Here (netIn net) i → Ready (netIn net) i) → BusiesAre net busies → Outcome (netIn net) (roomIn net) past replies
   pub low : Low replies
-  pub bare : Bare lengths (pick past 0 n) replies
+  pub bare : Bare net (pick past 0 (countIn net)) replies

@@ -1,22 +1,15 @@
-// The least settled arrival bounds: response bounds raised from zero, flow by flow, until each is up to date.
-use sheets::DRAFT;
-use sheets::PLACES;
-use starts::BLOCK;
-use starts::NODES;
+// The least settled arrival bounds: response bounds raised from zero, flow by flow, until each is up to date. What is worked on is lent.
 ghost use mathlib.Core.Path.{_≡_};
-ghost use Prim.Native.Nat.{_+_, _*_, _<_, _≤_};
-ghost use Rattle.starts.specs.Sheet.{mostFlows, mostNodes};
-ghost use Rattle.starts.specs.Runs.{Low, LowTo};
-ghost use Rattle.sheets.specs.Fields.{HalfSmall};
-ghost use Rattle.settle.specs.Turns.{RaisedIs, Flags, MarkedIs, ChosenIs, Short, Fair, TurnIs, SettleIs};
-
-const FLOWS: usize = 16;
-
-// Response bounds after a flow's were raised, and whether one rose: 0 or 1.
-struct Raised {
-    replies: [u64; PLACES],
-    rose: u64,
-}
+ghost use mathlib.Core.Bool.{true, false};
+ghost use Prim.Native.Nat.{ℕ, _+_, _*_, _<_, _≤_};
+ghost use lib.ListN.{length};
+ghost use Rattle.least.specs.Lists.{values};
+ghost use Rattle.nets.specs.Nets.{few, countIn, flowIn};
+ghost use Rattle.crossings.specs.Pairs.{PairsAre, Noted};
+ghost use Rattle.ways.specs.Ways.{WaysAre};
+ghost use Rattle.starts.specs.Runs.{LowTo};
+ghost use Rattle.settle.specs.Reading.{meetsEqual, readsFlow, readsOwn};
+ghost use Rattle.settle.specs.Turns.{Low, RaisedIs, MarkedIs, ChosenIs, Room, Fair, TurnIs, SettleIs};
 
 fn above(a: u64, b: u64) -> u64
     ensures { λ r. ⌜ (b ≤ a → r ≡ 0) × (a < b → r ≡ 1) × (r ≤ 1) ⌝ }
@@ -27,48 +20,88 @@ fn above(a: u64, b: u64) -> u64
     0
 }
 
-// The response bounds of flow a, at its first m nodes, raised to best.
-fn raise(replies: [u64; PLACES], best: [u64; NODES], a: usize, m: usize) -> Raised
-    requires { ⌜ (a < mostFlows) × (m ≤ mostNodes) × Low replies × Low best ⌝ }
-    ensures { λ r. ⌜ RaisedIs replies best a m (r .replies) (r .rose) ⌝ }
+// The response bounds of a flow, at m places from that one on, raised to best; 0 if none rose.
+fn raise(replies: &mut [u64], best: &[u64], at: usize, m: usize) -> u64
+    requires { ⌜ (at ≤ 4000) × (m ≤ few) × (at + m ≤ length (now replies)) × (m ≤ length (now best)) × Low (now replies) × LowTo m (now best) ⌝ }
+    ensures { λ r. ⌜ RaisedIs (now (replies .entry)) (now (best .entry)) at m (now (replies .exit)) r ⌝ }
 {
-    let mut to = replies;
     let mut rose: u64 = 0;
     let mut k: usize = 0;
     while k < m {
-        let at = a * NODES + k;
-        let was = to[at];
+        let was = replies[at + k];
         let now = best[k];
         rose = least::greater(rose, above(was, now));
-        to[at] = least::greater(was, now);
+        replies[at + k] = least::greater(was, now);
         k += 1;
     }
-    Raised { replies: to, rose }
+    rose
 }
 
-fn marked(mark: u64, read: u64) -> u64
-    ensures { λ r. ⌜ (read ≡ 0 → r ≡ mark) × ((read ≡ 0 → ⊥) → r ≡ 1) ⌝ }
+fn meets_equal(net: &[u16], pairs: &[u8], a: usize, b: usize) -> bool
+    requires { ⌜ Noted (now net) (now pairs) a b ⌝ }
+    ensures { λ r. ⌜ r ≡ meetsEqual (flowIn (now (net .entry)) a) (flowIn (now (net .entry)) b) ⌝ }
 {
-    if read == 0 {
-        return mark;
+    if crossings::side(net, pairs, a, b) == crossings::EQUAL {
+        return crossings::meet(net, pairs, a, b);
     }
-    1
+    false
+}
+
+// Whether flow a reads its own arrival bounds: for an equal flow that it meets.
+fn reads_own(net: &[u16], pairs: &[u8], a: usize) -> bool
+    requires { ⌜ Noted (now net) (now pairs) a a ⌝ }
+    ensures { λ r. ⌜ r ≡ readsOwn (now (net .entry)) a ⌝ }
+{
+    let n = nets::count(net);
+    let mut b: usize = 0;
+    while b < n {
+        if meets_equal(net, pairs, a, b) {
+            return true;
+        }
+        b += 1;
+    }
+    false
+}
+
+// Whether flow b reads the arrival bounds of flow a: of a higher or equal flow that it meets.
+fn reads(net: &[u16], pairs: &[u8], b: usize, a: usize) -> bool
+    requires { ⌜ Noted (now net) (now pairs) b a ⌝ }
+    ensures { λ r. ⌜ r ≡ readsFlow (now (net .entry)) b a ⌝ }
+{
+    if b == a {
+        return reads_own(net, pairs, a);
+    }
+    let side = crossings::side(net, pairs, b, a);
+    if side == crossings::OWN {
+        return false;
+    }
+    if side == crossings::LOWER {
+        return false;
+    }
+    crossings::meet(net, pairs, b, a)
+}
+
+fn marked(mark: u64, read: bool) -> u64
+    ensures { λ r. ⌜ (read ≡ false → r ≡ mark) × (read ≡ true → r ≡ 1) ⌝ }
+{
+    if read {
+        return 1;
+    }
+    mark
 }
 
 // A mark for each flow that reads flow a.
-fn mark(marks: [u64; FLOWS], reads: &[u64; PLACES], a: usize) -> [u64; FLOWS]
-    requires { ⌜ (a < mostFlows) × Flags marks ⌝ }
-    ensures { λ r. ⌜ MarkedIs marks (now (reads .entry)) a mostFlows r ⌝ }
+fn mark(net: &[u16], pairs: &[u8], marks: &mut [u64], a: usize)
+    requires { ⌜ Noted (now net) (now pairs) a a × (countIn (now net) ≤ length (now marks)) ⌝ }
+    ensures { λ r. ⌜ MarkedIs (now (marks .entry)) (now (net .entry)) a (countIn (now (net .entry))) (now (marks .exit)) ⌝ }
 {
-    let mut to = marks;
+    let n = nets::count(net);
     let mut b: usize = 0;
-    while b < FLOWS {
-        let was = to[b];
-        let read = reads[b * FLOWS + a];
-        to[b] = marked(was, read);
+    while b < n {
+        let read = reads(net, pairs, b, a);
+        marks[b] = marked(marks[b], read);
         b += 1;
     }
-    to
 }
 
 // Whether b, which is after chosen, comes before it in the round that begins after last.
@@ -80,27 +113,23 @@ fn comes_next(last: usize, chosen: usize, b: usize) -> bool {
 }
 
 // Flow b, if it is marked and more urgent than the one chosen, or as urgent and next in the round; n stands for none.
-fn prefer<'a>(
-    marks: &'a [u64; FLOWS],
-    priorities: &'a [u64; FLOWS],
-    last: usize,
-    chosen: usize,
-    b: usize,
-    n: usize,
-) -> usize
-    requires { ⌜ (b < n) × (n ≤ mostFlows) ⌝ }
+fn prefer(net: &[u16], marks: &[u64], last: usize, chosen: usize, b: usize, n: usize) -> usize
+    requires { ⌜ (b < n) × (n ≤ few) × (chosen ≤ n) ⌝ }
     ensures { λ r. ⌜ (ChosenIs (now (marks .entry)) n b chosen → ChosenIs (now (marks .entry)) n (b + 1) r) ⌝ }
+    ensures { λ r. ⌜ r ≤ n ⌝ }
 {
-    if marks[b] == 0 {
+    if least::at(marks, b) == 0 {
         return chosen;
     }
     if n <= chosen {
         return b;
     }
-    if priorities[chosen] < priorities[b] {
+    let old = nets::priority(net, chosen);
+    let new = nets::priority(net, b);
+    if old < new {
         return b;
     }
-    if priorities[b] < priorities[chosen] {
+    if new < old {
         return chosen;
     }
     if comes_next(last, chosen, b) {
@@ -109,116 +138,101 @@ fn prefer<'a>(
     chosen
 }
 
-// A marked flow of greatest priority, of several the next after last, so that each gets its turn; n if none is marked.
-fn choose<'a>(marks: &'a [u64; FLOWS], priorities: &'a [u64; FLOWS], last: usize, n: usize) -> usize
-    requires { ⌜ n ≤ mostFlows ⌝ }
-    ensures { λ r. ⌜ ChosenIs (now (marks .entry)) n n r ⌝ }
+// A marked flow of greatest priority, of several the next after last, so that each gets its turn; as many as there are if none is marked.
+fn choose(net: &[u16], marks: &[u64], last: usize) -> usize
+    ensures { λ r. ⌜ ChosenIs (now (marks .entry)) (countIn (now (net .entry))) (countIn (now (net .entry))) r ⌝ }
 {
+    let n = nets::count(net);
     let mut chosen = n;
     let mut b: usize = 0;
     while b < n {
-        chosen = prefer(marks, priorities, last, chosen, b, n);
+        chosen = prefer(net, marks, last, chosen, b, n);
         b += 1;
     }
     chosen
 }
 
-// Response bounds so far, the flows that are not up to date, and whether one passed the horizon.
-struct State {
-    replies: [u64; PLACES],
-    marks: [u64; FLOWS],
-    past: bool,
-}
-
-// The response bounds of flow a worked out again, with those so far.
-fn turn<'a>(
-    nums: &'a [u64; DRAFT],
-    from: &'a [u8; DRAFT],
-    also: &'a [u8; DRAFT],
-    lengths: &'a [u64; FLOWS],
-    busies: &'a [u64; FLOWS],
-    reads: &'a [u64; PLACES],
-    n: usize,
-    state: State,
+// The response bounds of flow a worked out again, with those so far; whether one passes the horizon.
+fn turn(
+    net: &[u16],
+    pairs: &[u8],
+    ways: &[u64],
+    busies: &[u64],
+    replies: &mut [u64],
+    marks: &mut [u64],
+    sheet: &mut [u64],
+    slots: &mut [u64],
+    best: &mut [u64],
     a: usize,
-) -> State
-    requires { ⌜ (a < n) × (n ≤ mostFlows) × HalfSmall (now nums) × Short (now lengths) × LowTo n (now busies) × Fair (now lengths) n (state .replies) (state .marks) ⌝ }
-    ensures { λ r. ⌜ TurnIs (now (nums .entry)) (now (from .entry)) (now (also .entry)) (now (lengths .entry)) (now (busies .entry)) (now (reads .entry)) n (state .replies) (state .marks) a (r .past) (r .replies) (r .marks) ⌝ }
-    ensures { λ r. ⌜ Fair (now (lengths .entry)) n (r .replies) (r .marks) ⌝ }
+) -> bool
+    requires { ⌜ Noted (now net) (now pairs) a a × WaysAre (now net) (now ways) × LowTo (countIn (now net)) (now busies) × Room (now net) (now busies) (now replies) (now marks) (now sheet) (now slots) (now best) × Fair (now net) (now replies) (now marks) ⌝ }
+    ensures { λ r. ⌜ TurnIs (now (net .entry)) (now (busies .entry)) (now (replies .entry)) (now (marks .entry)) a r (now (replies .exit)) (now (marks .exit)) ⌝ }
+    ensures { λ r. ⌜ Room (now (net .entry)) (now (busies .entry)) (now (replies .exit)) (now (marks .exit)) (now (sheet .exit)) (now (slots .exit)) (now (best .exit)) × Fair (now (net .entry)) (now (replies .exit)) (now (marks .exit)) ⌝ }
 {
-    let mut marks = state.marks;
     marks[a] = 0;
-    let replies = state.replies;
-    let m = lengths[a] as usize;
-    let sheet = sheets::fill(nums, from, also, &replies, a, m * BLOCK);
-    let bounds = starts::responses(&sheet, n, m, busies[a]);
-    if bounds.past {
-        return State {
-            replies,
-            marks,
-            past: true,
-        };
+    sheets::write(net, pairs, ways, replies, sheet, a);
+    let m = nets::hops(net, a);
+    let end = busies[a];
+    if starts::responses(sheet, slots, best, m, end) {
+        return true;
     }
-    let best = bounds.best;
-    let raised = raise(replies, best, a, m);
-    if raised.rose == 0 {
-        return State {
-            replies,
-            marks,
-            past: false,
-        };
+    if raise(replies, best, a * nets::room(net), m) == 0 {
+        return false;
     }
-    let risen = raised.replies;
-    let again = mark(marks, reads, a);
-    State {
-        replies: risen,
-        marks: again,
-        past: false,
-    }
+    mark(net, pairs, marks, a);
+    false
 }
 
-// The response bounds of each flow at the nodes of its path, and zeros in all other places; past the horizon, zeros alone.
-pub struct Settlement {
-    pub replies: [u64; PLACES],
-    pub past: bool,
-}
-
-// The response bounds with the least settled arrival bounds; past, where there are none.
-pub fn settle<'a>(
-    nums: &'a [u64; DRAFT],
-    from: &'a [u8; DRAFT],
-    also: &'a [u8; DRAFT],
-    lengths: &'a [u64; FLOWS],
-    busies: &'a [u64; FLOWS],
-    priorities: &'a [u64; FLOWS],
-    reads: &'a [u64; PLACES],
-    n: usize,
-) -> Settlement
-    requires { ⌜ (n ≤ mostFlows) × HalfSmall (now nums) × Short (now lengths) × LowTo n (now busies) ⌝ }
-    ensures { λ r. ⌜ SettleIs (now (nums .entry)) (now (from .entry)) (now (also .entry)) (now (lengths .entry)) (now (busies .entry)) (now (reads .entry)) n (r .past) (r .replies) ⌝ }
+// Each number of l set to x.
+fn all_set(l: &mut [u64], x: u64)
+    ensures { λ r. ⌜ ((k : ℕ) → k < length (now (l .entry)) → values (now (l .exit)) k ≡ x) ⌝ }
+    ensures { λ r. ⌜ length (now (l .exit)) ≡ length (now (l .entry)) ⌝ }
 {
-    let mut state = State {
-        replies: [0u64; PLACES],
-        marks: [1u64; FLOWS],
-        past: false,
-    };
-    let first = state.marks;
-    let mut a = choose(&first, priorities, n, n);
+    let mut k: usize = 0;
+    while k < l.len() {
+        l[k] = x;
+        k += 1;
+    }
+}
+
+// The response bounds with the least settled arrival bounds: of flow a at place k of its path at a × room + k, and zeros in all other places. Whether
+// there are none, and then zeros alone. Marks, sheet, slots and best are worked on.
+pub fn settle(
+    net: &[u16],
+    pairs: &[u8],
+    ways: &[u64],
+    busies: &[u64],
+    replies: &mut [u64],
+    marks: &mut [u64],
+    sheet: &mut [u64],
+    slots: &mut [u64],
+    best: &mut [u64],
+) -> bool
+    requires { ⌜ PairsAre (now net) (now pairs) × WaysAre (now net) (now ways) × LowTo (countIn (now net)) (now busies) × Room (now net) (now busies) (now replies) (now marks) (now sheet) (now slots) (now best) ⌝ }
+    ensures { λ r. ⌜ SettleIs (now (net .entry)) (now (busies .entry)) r (now (replies .exit)) ⌝ }
+    ensures { λ r. ⌜ length (now (replies .exit)) ≡ length (now (replies .entry)) ⌝ }
+{
+    all_set(replies, 0);
+    all_set(marks, 1);
+    let n = nets::count(net);
+    let mut a = choose(net, marks, n);
     while a < n {
-        state = turn(nums, from, also, lengths, busies, reads, n, state, a);
-        if state.past {
-            let replies = [0u64; PLACES];
-            return Settlement {
-                replies,
-                past: true,
-            };
+        if turn(
+            net,
+            pairs,
+            ways,
+            busies,
+            replies,
+            marks,
+            sheet,
+            slots,
+            best,
+            a,
+        ) {
+            all_set(replies, 0);
+            return true;
         }
-        let marks = state.marks;
-        a = choose(&marks, priorities, a, n);
+        a = choose(net, marks, a);
     }
-    let replies = state.replies;
-    Settlement {
-        replies,
-        past: false,
-    }
+    false
 }

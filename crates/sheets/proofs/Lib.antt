@@ -2,5 +2,6 @@
 pub mod Places
 pub mod Link
 pub mod Whole
-pub mod Filling
-pub mod Drafted
+pub mod Running
+pub mod Blocks
+pub mod Writing

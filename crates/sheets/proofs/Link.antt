@@ -1,26 +1,26 @@
 -- The entries of a sheet at a node add up to the rules' terms 1 and 2, and i's packets after its first. Assumes nothing.
 use mathlib.Core.Path.{_≡_, refl, sym, ap, ap₂, _∙_, subst}
-use mathlib.Core.Bool.{Bool, true, false}
-use mathlib.Core.Logic.{_⊎_, inl, inr}
+use mathlib.Core.Bool.{Bool, true, false, not}
+use mathlib.Core.Logic.{inl, inr}
 use mathlib.Core.List.{List, [], _∷_, List·Memᴰ}
-use Prim.Native.Nat.{ℕ, _+_, _*_, _%_, _≤_, _<_}
+use Prim.Native.Nat.{ℕ, zero, suc, _+_, _*_, _≤_, _<_}
 use native.Mathlib.Omega.{arith}
-use native.Mathlib.Nat.{add-zero, mul-zero}
+use native.Mathlib.Nat.{add-zero, mul-zero, le-refl}
 use lib.Dec.{ltb, eqb}
-use lib.ListN.{length}
-use borrow.Author.Tests.{eq-eqb, eqb-true, eqb-false, ne-eqb}
+use lib.ListN.{length, getD}
+use borrow.Author.Tests.{eq-eqb, eqb-true, ne-eqb}
 use Rattle.least.specs.Count.{pick, count}
 use Rattle.least.specs.Fold.{sumTo, sumOf, anyOf}
 use Rattle.least.proofs.Count.{le-or-lt}
-use Rattle.least.proofs.Fold.{false-true, sum-map, sum-to-add, sum-to-ext, sum-to-one, sum-to-list, any-at, any-found}
+use Rattle.least.proofs.Fold.{false-true, sum-append, sum-map, sum-to-add, sum-to-ext, sum-to-one, sum-to-list, any-at, any-found}
 use Rattle.rules.specs.Net.{Hop, Flow, Net}
-use Rattle.rules.specs.Formula.{Role, Own, Higher, Equal, Lower, role, visits, prefix, before, firstOn, lastOn, crosses, Crossing, smin, Arrivals, M, slowest, weight, ownWeight, plusA, lessA, term1, term2, packets, others, crossings, arrivals}
+use Rattle.rules.specs.Formula.{Role, Own, Higher, Equal, Lower, both, role, lower, visits, prefix, firstOn, lastOn, crosses, Crossing, smin, Arrivals, M, slowest, weight, ownWeight, plusA, lessA, term1, term2, packets, others, crossings, arrivals}
 use Rattle.rules.specs.Valid.{Valid}
-use Rattle.rules.proofs.Path.{prefix-visits, visits-here, visits-there, visits-member, visits-hop, last-cases, before-less}
+use Rattle.rules.proofs.Path.{prefix-visits, visits-here, visits-there, visits-member, visits-hop}
 use Rattle.rules.proofs.Shared.{shared, slowest-shared, first-of-shared, first-on-shared, last-on-shared, uncrossed-nothing}
-use Rattle.paths.specs.Paths.{positionOf}
-use Rattle.starts.specs.Sheet.{mostNodes, hereSlot, instantSlot, values, termOf, seen}
-use Rattle.sheets.specs.Fields.{noFlow, flowAt, noPlace, lag, source, lookOf, plusOf, lessOf, weightOf, fromOf, alsoOf, EntryIs, placeIn, responsesIn}
+use Rattle.nets.specs.Nets.{noFlow, flowAt, positionOf}
+use Rattle.starts.specs.Sheet.{hereSlot, instantSlot, nodeSlot, entriesIn, entryAt, termOf, seen}
+use Rattle.sheets.specs.Fields.{Entry, noEntry, termBy, arrivalBy, entryOf, counted, entriesTo, EntryIs, Listed, placeIn, responsesIn}
 use Rattle.sheets.proofs.Places.{flow-here, place-at, one-flow, arrival-is}
 
 -- flows that meet: the first node of one on the other is on both
@@ -70,15 +70,22 @@ own-number i j q = go (eqb (i .number) (j .number)) refl (ltb (i .priority) (j .
     go false e false true o = false-true o
     go false e false false o = false-true o
 
--- two products with the same weight, whose counts agree unless that is 0
-same-product : (c c′ s : ℕ) → (0 < s → c ≡ c′) → c * s ≡ c′ * s
-same-product c c′ s h = elim (le-or-lt s 0) [
-  | inl z ↦ let e : s ≡ 0 = omega arith in ap (λ q. c * q) e ∙ mul-zero c ∙ sym (mul-zero c′) ∙ ap (λ q. c′ * q) (sym e)
-  | inr p ↦ ap (λ q. q * s) (h p)
-]
+no-weight : (v : ℕ → ℕ) (x : Entry) → x .weight ≡ 0 → termBy v x ≡ 0
+unfolding termBy
+no-weight v x e = rw e (mul-zero (count (v (x .look) + x .plus) (x .less) (x .period)))
 
-module _ (N : Net) (val : Valid N) (r : ℕ → ℕ) (none : r noPlace ≡ 0) (a : ℕ) (here : a < length (N .flows)) (h : ℕ)
-    (short : positionOf h (flowAt N a .path) ≤ mostNodes) where
+-- the entries of a block add up to those listed
+module _ (e : List ℕ) (v : ℕ → ℕ) where
+  term-is : (k : ℕ) (x : Entry) → EntryIs e k x → termOf e v k ≡ termBy v x
+  unfolding termOf termBy
+  term-is k x at = rw (at .look, at .plus, at .less, at .period, at .weight)
+
+  pub listed-sum : (p : ℕ) (l : List Entry) → Listed e p l → sumTo (entriesIn e p) (λ q. termOf e v (entryAt e p q)) ≡ sumOf (termBy v) l
+  listed-sum p l is =
+      ap (λ n. sumTo n (λ q. termOf e v (entryAt e p q))) (is .count)
+      ∙ sum-to-ext (length l) _ _ (λ q on. term-is (entryAt e p q) (getD l q noEntry) (is .each q on)) ∙ sum-to-list (termBy v) l noEntry
+
+module _ (N : Net) (val : Valid N) (w : ℕ) (r : ℕ → ℕ) (a : ℕ) (here : a < length (N .flows)) (h : ℕ) where
   abbrev i : Flow
   i = flowAt N a
 
@@ -86,7 +93,7 @@ module _ (N : Net) (val : Valid N) (r : ℕ → ℕ) (none : r noPlace ≡ 0) (a
   P = prefix h (i .path)
 
   abbrev S : Arrivals
-  S = arrivals N (responsesIn N r)
+  S = arrivals N (responsesIn N w r)
 
   within : (n : ℕ) → visits P n ≡ true → visits (i .path) n ≡ true
   within n e = prefix-visits h n (i .path) e
@@ -100,6 +107,12 @@ module _ (N : Net) (val : Valid N) (r : ℕ → ℕ) (none : r noPlace ≡ 0) (a
 
     abbrev crossing : Crossing
     crossing = record { flow = j; part = shared (i .path) (j .path) }
+
+    abbrev entry : Role → Entry
+    entry = entryOf N w r a P h b
+
+    own-flow : role i j ≡ Own → i ≡ j
+    own-flow q = one-flow (N .flows) (val .rising) i j (flow-here N a here) (flow-here N b there) (own-number i j q)
 
     f-same : firstOn P (crossing .part) ≡ firstOn P (j .path)
     f-same = first-on-shared (i .path) P (j .path) on-path
@@ -115,116 +128,92 @@ module _ (N : Net) (val : Valid N) (r : ℕ → ℕ) (none : r noPlace ≡ 0) (a
     weight-same = slowest-shared (i .path) P within (j .path)
 
     -- A(i,j), where j crosses
-    plus-is : 0 < slowest P (j .path) → plusA S P crossing ≡ lag N (firstOn P (j .path)) (j .path) + r (source b (firstOn P (j .path)) (j .path)) + j .jitter
+    plus-is : 0 < slowest P (j .path) → plusA S P crossing ≡ arrivalBy N w r b (firstOn P (j .path)) (j .path) + j .jitter
     unfolding plusA
     plus-is q =
         let vis = first-visited P (j .path) (crosses-back (j .path) P (meets P (j .path) q)) .1 in
-        ap (λ n. S (j .number, n) + j .jitter) f-same ∙ ap (λ s. s + j .jitter) (arrival-is N val r none b there (firstOn P (j .path)) vis)
+        ap (λ n. S (j .number, n) + j .jitter) f-same ∙ ap (λ s. s + j .jitter) (arrival-is N val w r b there (firstOn P (j .path)) vis)
 
     less-is : lessA N i P crossing ≡ M N i (firstOn P (j .path))
     unfolding lessA
     less-is = ap (M N i) f-same
 
-    own-is : 0 < slowest P (j .path) →
-        S (i .number, firstOn (crossing .part) P) ≡ lag N (firstOn (j .path) P) (i .path) + r (source a (firstOn (j .path) P) (i .path))
+    own-is : 0 < slowest P (j .path) → S (i .number, firstOn (crossing .part) P) ≡ arrivalBy N w r a (firstOn (j .path) P) (i .path)
     own-is q =
         let vis = within _ (first-visited (j .path) P (meets P (j .path) q) .1) in
-        ap (λ n. S (i .number, n)) g-same ∙ arrival-is N val r none a here (firstOn (j .path) P) vis
+        ap (λ n. S (i .number, n)) g-same ∙ arrival-is N val w r a here (firstOn (j .path) P) vis
 
-    module _ (e : List ℕ) (k : ℕ) (entry : EntryIs N i j P h a b r e k) (x : ℕ → ℕ) (w u : ℕ) where
-      term-is : (look plus less weight : ℕ) → values e k ≡ look → values e (k + 1) ≡ plus → values e (k + 2) ≡ less → values e (k + 4) ≡ weight →
-          termOf e (seen x w u) k ≡ count (seen x w u (look % 16) + plus) less (j .period) * weight
-      unfolding termOf
-      term-is look plus less weight p q s t = rw (p, q, s, entry .period, t)
+    -- a flow that has no entry would add nothing by it
+    left-out : (ρ : Role) → role i j ≡ ρ → both (not (lower ρ)) (crosses P (j .path)) ≡ false → entry ρ .weight ≡ 0
+    unfolding entryOf
+    left-out Own q e = ap (λ f. slowest P (f .path)) (own-flow q) ∙ uncrossed-nothing P (j .path) e
+    left-out Higher q e = uncrossed-nothing P (j .path) e
+    left-out Equal q e = uncrossed-nothing P (j .path) e
+    left-out Lower q e = refl
 
+    entry-alone : (v : ℕ → ℕ) → sumOf (termBy v) (pick (counted N w r a P h b) (entry (role i j) ∷ []) []) ≡ termBy v (entry (role i j))
+    unfolding counted sumOf
+    entry-alone v = go (counted N w r a P h b) refl
+      where
+        go : (t : Bool) → counted N w r a P h b ≡ t → sumOf (termBy v) (pick t (entry (role i j) ∷ []) []) ≡ termBy v (entry (role i j))
+        go true e = omega arith
+        go false e = sym (no-weight v (entry (role i j)) (left-out (role i j) refl e))
+
+    -- two counts times the weight, which agree unless that is 0
+    same-count : (m m′ n n′ : ℕ) → (0 < slowest P (j .path) → m ≡ m′) → n ≡ n′ →
+        count m n (j .period) * slowest P (j .path) ≡ count m′ n′ (j .period) * weight P crossing + 0
+    same-count m m′ n n′ gains losses = elim (le-or-lt (slowest P (j .path)) 0) [
+      | inl z ↦
+          let e : slowest P (j .path) ≡ 0 = omega arith in
+          omega (arith, ap (λ q. count m n (j .period) * q) e, ap (λ q. count m′ n′ (j .period) * q) (weight-same ∙ e))
+      | inr z ↦ omega (arith, ap₂ (λ q t. count q t (j .period) * slowest P (j .path)) (gains z) losses, ap (λ q. count m′ n′ (j .period) * q) weight-same)
+    ]
+
+    module _ (x : ℕ → ℕ) (s u : ℕ) where
       -- the slot of W at the last node shared
-      higher-slot : seen x w u (lookOf N i j P h Higher % 16) ≡ pick (eqb (lastOn h P (crossing .part)) h) w (x (positionOf (lastOn h P (crossing .part)) (i .path)))
-      unfolding lookOf
-      higher-slot = ap (λ l. seen x w u (pick (eqb l h) hereSlot (positionOf l (i .path)) % 16)) (sym l-same) ∙ go (eqb l h) refl (last-cases h (i .path) (crossing .part))
+      higher-slot : seen x s u (entry Higher .look) ≡ pick (eqb (lastOn h P (crossing .part)) h) s (x (positionOf (lastOn h P (crossing .part)) (i .path)))
+      unfolding entryOf
+      higher-slot = ap (λ l. seen x s u (pick (eqb l h) hereSlot (nodeSlot (positionOf l (i .path))))) (sym l-same) ∙ go (eqb l h)
         where
           l : ℕ
           l = lastOn h P (crossing .part)
 
-          slot : (n : ℕ) → n < mostNodes → seen x w u (n % 16) ≡ x n
-          slot n q =
-              let m : n % 16 ≡ n = omega arith in
-              ap (seen x w u) m ∙ rw (ne-eqb n hereSlot (λ z. omega arith), ne-eqb n instantSlot (λ z. omega arith))
+          slot : (n : ℕ) → seen x s u (nodeSlot n) ≡ x n
+          slot n = rw (ne-eqb (nodeSlot n) hereSlot (λ z. omega arith), ne-eqb (nodeSlot n) instantSlot (λ z. omega arith)) (ap x (omega arith))
 
-          go : (t : Bool) → eqb l h ≡ t → (l ≡ h) ⊎ (visits (before h (i .path)) l ≡ true) →
-              seen x w u (pick t hereSlot (positionOf l (i .path)) % 16) ≡ pick t w (x (positionOf l (i .path)))
-          go true q c = refl
-          go false q (inl c) = absurd (eqb-false l h q c)
-          go false q (inr c) = slot (positionOf l (i .path)) (omega (arith, before-less h l (i .path) c))
+          go : (t : Bool) → seen x s u (pick t hereSlot (nodeSlot (positionOf l (i .path)))) ≡ pick t s (x (positionOf l (i .path)))
+          go true = refl
+          go false = slot (positionOf l (i .path))
 
       -- the entry of a flow by its role; i itself brings what comes after its first packet
-      entry-role : (ρ : Role) → role i j ≡ ρ →
-          termOf e (seen x w u) k
-          ≡ packets N i S P h u (λ l. x (positionOf l (i .path))) w crossing ρ * weight P crossing + pick (isOwn ρ) (count u (i .period) (i .period) * ownWeight P i) 0
-      unfolding packets term1 term2 ownWeight lookOf plusOf lessOf weightOf fromOf alsoOf
-      entry-role Own q =
-          let own : i ≡ j = one-flow (N .flows) (val .rising) i j (flow-here N a here) (flow-here N b there) (own-number i j q) in
-          let plus : values e (k + 1) ≡ 0 =
-          entry .plus ∙ ap (λ t. plusOf N i j P h t + r (fromOf N i j P h b t) + r (alsoOf N i j P h a t)) q ∙ nothing in
-          term-is instantSlot 0 (i .period) (slowest P (i .path)) (entry .look ∙ ap (lookOf N i j P h) q) plus
-          (entry .less ∙ ap (lessOf N i j P h) q) (entry .weight ∙ ap (weightOf N i j P h) q)
-          ∙ ap (λ t. count (u + 0) (i .period) t * slowest P (i .path)) (ap (λ f. f .period) (sym own))
-          ∙ omega (arith, ap (λ t. count t (i .period) (i .period) * slowest P (i .path)) (add-zero u))
-        where
-          nothing : 0 + r noPlace + r noPlace ≡ 0
-          nothing = omega (arith, none)
-      entry-role Higher q =
-          term-is _ _ _ _ (entry .look ∙ ap (lookOf N i j P h) q)
-          (entry .plus ∙ ap (λ t. plusOf N i j P h t + r (fromOf N i j P h b t) + r (alsoOf N i j P h a t)) q)
-          (entry .less ∙ ap (lessOf N i j P h) q) (entry .weight ∙ ap (weightOf N i j P h) q)
-          ∙ same-product _ _ (slowest P (j .path)) (λ t. ap₂ (λ m n. count m n (j .period)) (gains t) losses)
-          ∙ omega (arith, ap (λ s. counted * s) weight-same)
-        where
-          counted : ℕ
-          counted = count (pick (eqb (lastOn h P (crossing .part)) h) w (x (positionOf (lastOn h P (crossing .part)) (i .path))) + plusA S P crossing)
-              (smin N j (lastOn h P (crossing .part)) + lessA N i P crossing) (j .period)
+      entry-role : (ρ : Role) →
+          termBy (seen x s u) (entry ρ)
+          ≡ packets N i S P h u (λ l. x (positionOf l (i .path))) s crossing ρ * weight P crossing + pick (isOwn ρ) (count u (i .period) (i .period) * ownWeight P i) 0
+      unfolding termBy packets term1 term2 ownWeight entryOf
+      entry-role Own = omega (arith, ap (λ t. count t (i .period) (i .period) * slowest P (i .path)) (add-zero u))
+      entry-role Higher = same-count _ _ _ _ (λ t. omega (arith, higher-slot, plus-is t)) (omega (arith, ap (smin N j) l-same, less-is))
+      entry-role Equal = same-count _ _ _ _ (λ t. omega (arith, own-is t, plus-is t)) (omega (arith, ap (smin N j) g-same, less-is))
+      entry-role Lower = omega arith
 
-          gains : 0 < slowest P (j .path) →
-              seen x w u (lookOf N i j P h Higher % 16) + (j .jitter + lag N (firstOn P (j .path)) (j .path) + r (source b (firstOn P (j .path)) (j .path)) + r noPlace)
-              ≡ pick (eqb (lastOn h P (crossing .part)) h) w (x (positionOf (lastOn h P (crossing .part)) (i .path))) + plusA S P crossing
-          gains t = omega (arith, higher-slot, plus-is t, none)
-
-          losses : smin N j (lastOn h P (j .path)) + M N i (firstOn P (j .path)) ≡ smin N j (lastOn h P (crossing .part)) + lessA N i P crossing
-          losses = omega (arith, ap (smin N j) l-same, less-is)
-      entry-role Equal q =
-          term-is _ _ _ _ (entry .look ∙ ap (lookOf N i j P h) q)
-          (entry .plus ∙ ap (λ t. plusOf N i j P h t + r (fromOf N i j P h b t) + r (alsoOf N i j P h a t)) q)
-          (entry .less ∙ ap (lessOf N i j P h) q) (entry .weight ∙ ap (weightOf N i j P h) q)
-          ∙ same-product _ _ (slowest P (j .path)) (λ t. ap₂ (λ m n. count m n (j .period)) (gains t) losses)
-          ∙ omega (arith, ap (λ s. counted * s) weight-same)
-        where
-          counted : ℕ
-          counted = count (u + S (i .number, firstOn (crossing .part) P) + plusA S P crossing)
-              (i .jitter + smin N j (firstOn (crossing .part) P) + lessA N i P crossing) (j .period)
-
-          gains : 0 < slowest P (j .path) →
-              u + (j .jitter + lag N (firstOn P (j .path)) (j .path) + lag N (firstOn (j .path) P) (i .path) + r (source b (firstOn P (j .path)) (j .path)) + r (source a (firstOn (j .path) P) (i .path)))
-              ≡ u + S (i .number, firstOn (crossing .part) P) + plusA S P crossing
-          gains t = omega (arith, own-is t, plus-is t)
-
-          losses : i .jitter + smin N j (firstOn (j .path) P) + M N i (firstOn P (j .path)) ≡ i .jitter + smin N j (firstOn (crossing .part) P) + lessA N i P crossing
-          losses = omega (arith, ap (smin N j) g-same, less-is)
-      entry-role Lower q =
-          term-is _ _ _ 0 (entry .look ∙ ap (lookOf N i j P h) q)
-          (entry .plus ∙ ap (λ t. plusOf N i j P h t + r (fromOf N i j P h b t) + r (alsoOf N i j P h a t)) q)
-          (entry .less ∙ ap (lessOf N i j P h) q) (entry .weight ∙ ap (weightOf N i j P h) q)
-          ∙ omega arith
+  -- one entry a flow, left out or not
+  entries-each : (v : ℕ → ℕ) (n : ℕ) → n ≤ length (N .flows) →
+      sumOf (termBy v) (entriesTo N w r a P h n) ≡ sumTo n (λ b. termBy v (entryOf N w r a P h b (role i (flowAt N b))))
+  unfolding entriesTo sumOf sumTo
+  entries-each v zero l = refl
+  entries-each v (suc n) l =
+      sum-append (termBy v) (entriesTo N w r a P h n) _ ∙ ap₂ (λ m n. m + n) (entries-each v n (omega arith)) (entry-alone n (omega arith) v)
 
   -- over all flows: terms 1 and 2, and i's packets after its first
-  module _ (e : List ℕ) (at : ℕ → ℕ) (entries : (b : ℕ) → b < length (N .flows) → EntryIs N i (flowAt N b) P h a b r e (at b)) (x : ℕ → ℕ) (w u : ℕ) where
+  module _ (x : ℕ → ℕ) (s u : ℕ) where
     abbrev after : ℕ
     after = count u (i .period) (i .period) * ownWeight P i
 
     one : Flow → ℕ
     one j =
-        packets N i S P h u (λ l. x (positionOf l (i .path))) w (record { flow = j; part = shared (i .path) (j .path) }) (role i j)
+        packets N i S P h u (λ l. x (positionOf l (i .path))) s (record { flow = j; part = shared (i .path) (j .path) }) (role i j)
         * weight P (record { flow = j; part = shared (i .path) (j .path) })
 
-    others-are : others N i S P h u (λ l. x (positionOf l (i .path))) w ≡ sumOf one (N .flows)
+    others-are : others N i S P h u (λ l. x (positionOf l (i .path))) s ≡ sumOf one (N .flows)
     unfolding others crossings one
     others-are = sum-map _ _ (N .flows)
 
@@ -240,10 +229,11 @@ module _ (N : Net) (val : Valid N) (r : ℕ → ℕ) (none : r noPlace ≡ 0) (a
             go Equal q = refl
             go Lower q = refl
 
-    pub entries-sum : sumTo (length (N .flows)) (λ b. termOf e (seen x w u) (at b)) ≡ others N i S P h u (λ l. x (positionOf l (i .path))) w + after
+    pub entries-sum : sumOf (termBy (seen x s u)) (entriesTo N w r a P h (length (N .flows))) ≡ others N i S P h u (λ l. x (positionOf l (i .path))) s + after
     unfolding one
     entries-sum =
-        sum-to-ext (length (N .flows)) _ (λ b. one (flowAt N b) + pick (isOwn (role i (flowAt N b))) after 0)
-        (λ b l. entry-role b l e (at b) (entries b l) x w u (role i (flowAt N b)) refl)
+        entries-each (seen x s u) (length (N .flows)) (le-refl _)
+        ∙ sum-to-ext (length (N .flows)) _ (λ b. one (flowAt N b) + pick (isOwn (role i (flowAt N b))) after 0)
+        (λ b l. entry-role b l x s u (role i (flowAt N b)))
         ∙ sum-to-add (length (N .flows)) (λ b. one (flowAt N b)) (λ b. pick (isOwn (role i (flowAt N b))) after 0)
         ∙ ap₂ (λ m n. m + n) (sum-to-list one (N .flows) noFlow ∙ sym others-are) own-once

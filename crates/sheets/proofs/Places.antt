@@ -16,10 +16,9 @@ use Rattle.rules.specs.Net.{Hop, Flow, Net}
 use Rattle.rules.specs.Formula.{visits, before, arriving, arrivals}
 use Rattle.rules.specs.Valid.{RisingNumbers, Valid}
 use Rattle.rules.proofs.Path.{visits-cases}
-use Rattle.paths.specs.Paths.{positionOf}
-use Rattle.paths.proofs.Places.{member-at, position-below, position-at}
-use Rattle.starts.specs.Sheet.{mostNodes}
-use Rattle.sheets.specs.Fields.{noHop, noFlow, flowAt, noPlace, lag, source, placeIn, responsesIn}
+use Rattle.nets.specs.Nets.{noHop, noFlow, flowAt, positionOf}
+use Rattle.nets.proofs.Places.{member-at, position-below, position-at}
+use Rattle.sheets.specs.Fields.{arrivalBy, placeIn, responsesIn}
 
 pub flow-here : (N : Net) (a : ℕ) → a < length (N .flows) → List·Memᴰ (flowAt N a) (N .flows)
 flow-here N a h = member-at (N .flows) a noFlow h
@@ -90,11 +89,12 @@ arriving-at m R a (k ∷ ks) h v = go (eqb (k .node) h) refl (arriving-at m R (R
         split zero = refl
         split (suc n) = rw (ne-eqb (suc n) 0 (λ z. omega arith), ne-eqb (suc (suc n)) 0 (λ z. omega arith)) (ap (λ q. R (q .node) + m) (later n))
 
--- S of flow b at a node that it visits: what is fixed of it, and a response bound among all
-pub arrival-is : (N : Net) → Valid N → (r : ℕ → ℕ) → r noPlace ≡ 0 → (b : ℕ) → b < length (N .flows) → (h : ℕ) → visits (flowAt N b .path) h ≡ true →
-    arrivals N (responsesIn N r) (flowAt N b .number, h) ≡ lag N h (flowAt N b .path) + r (source b h (flowAt N b .path))
-arrival-is N v r none b on h vis =
-    arrivals-of N (v .rising) (responsesIn N r) j (flow-here N b on) h ∙ arriving-at (N .lmax) (responsesIn N r j) 0 (j .path) h vis
+-- S of flow b at a node that it visits
+pub arrival-is : (N : Net) → Valid N → (w : ℕ) (r : ℕ → ℕ) (b : ℕ) → b < length (N .flows) → (h : ℕ) → visits (flowAt N b .path) h ≡ true →
+    arrivals N (responsesIn N w r) (flowAt N b .number, h) ≡ arrivalBy N w r b h (flowAt N b .path)
+unfolding arrivalBy
+arrival-is N v w r b on h vis =
+    arrivals-of N (v .rising) (responsesIn N w r) j (flow-here N b on) h ∙ arriving-at (N .lmax) (responsesIn N w r j) 0 (j .path) h vis
     ∙ go (eqb pos 0) refl
   where
     j : Flow
@@ -106,12 +106,12 @@ arrival-is N v r none b on h vis =
     node : ℕ
     node = getD (j .path) (pos - 1) noHop .node
 
-    go : (t : Bool) → eqb pos 0 ≡ t → pick t 0 (responsesIn N r j node + N .lmax) ≡ pick t 0 (N .lmax) + r (pick t noPlace (b * mostNodes + pos - 1))
-    go true e = omega (arith, none)
+    go : (t : Bool) → eqb pos 0 ≡ t → pick t 0 (responsesIn N w r j node + N .lmax) ≡ pick t 0 (N .lmax + r (b * w + pos - 1))
+    go true e = refl
     go false e =
         let q : pos ≡ 0 → ⊥ = eqb-false pos 0 e in
         let at : positionOf node (j .path) ≡ pos - 1 =
         position-at (j .path) (v .flows j (flow-here N b on) .distinct) (pos - 1) (omega (arith, position-below (j .path) h vis)) in
-        let place : placeIn (j .number) (N .flows) * mostNodes + positionOf node (j .path) ≡ b * mostNodes + pos - 1 =
-        omega (arith, place-at (N .flows) (v .rising) b on) in
+        let place : placeIn (j .number) (N .flows) * w + positionOf node (j .path) ≡ b * w + pos - 1 =
+        omega (arith, ap (λ k. k * w) (place-at (N .flows) (v .rising) b on)) in
         omega (arith, ap r place)

@@ -1,3 +1,4 @@
 -- The definitions of `sheets`.
 pub mod Fields
-pub mod Setup
+pub mod Rows
+pub mod Blocks

@@ -1,45 +1,278 @@
-// The sheet of a flow: what of the formula hangs neither on the instant nor on W, with the response bounds so far.
-use starts::SHEET;
+// The sheet of a flow, written at its turn: what of the formula hangs neither on the instant nor on W, with the response bounds so far.
+use starts::ENTRY;
+use starts::HEAD;
+use starts::HERE;
+use starts::INSTANT;
+use starts::NODE;
 ghost use mathlib.Core.Path.{_≡_};
-ghost use Prim.Native.Nat.{ℕ, _+_, _*_, _<_, _≤_};
-ghost use Rattle.starts.specs.Sheet.{mostFlows, sheetSize, values, Small};
-ghost use Rattle.starts.specs.Runs.{Low};
-ghost use Rattle.sheets.specs.Fields.{FilledUpTo, HalfSmall};
+ghost use mathlib.Core.List.{[], _∷_};
+ghost use Prim.Native.Nat.{ℕ, _+_, _*_, _<_, _≤_, max};
+ghost use lib.Dec.{ltb, eqb};
+ghost use lib.ListN.{length};
+ghost use Rattle.least.specs.Count.{pick};
+ghost use Rattle.least.specs.Lists.{values};
+ghost use Rattle.rules.specs.Valid.{Valid};
+ghost use Rattle.nets.specs.Nets.{few, countIn, roomIn, lengthIn, fieldIn, flowIn, netIn};
+ghost use Rattle.crossings.specs.Pairs.{placeOn, costOn, Noted};
+ghost use Rattle.ways.specs.Ways.{sminTo, WaysAre};
+ghost use Rattle.starts.specs.Sheet.{mostTime, hereSlot, nodeSlot, entriesIn, Small, Shaped};
+ghost use Rattle.sheets.specs.Fields.{SheetIs};
+ghost use Rattle.sheets.specs.Rows.{arrivalAt, higherAt, equalAt, ownAt};
+ghost use Rattle.sheets.specs.Blocks.{blockSize, Frame, Appended, entryFrom, Grown, Roomy, Joined, Given, Filled};
 
-// A draft: a sheet for each of 16 flows.
-pub const DRAFT: usize = 10496;
-
-// Places of response bounds: as many as a byte can name.
-pub const PLACES: usize = 256;
-
-fn wide(x: u8) -> usize
-    ensures { λ r. ⌜ (r ≡ x) × (r < 256) ⌝ }
+// S of flow b at place q of its path.
+fn arrival(net: &[u16], replies: &[u64], b: usize, q: usize) -> u64
+    requires { ⌜ (b < countIn (now net)) × (q ≤ 63) × ((k : ℕ) → values (now replies) k ≤ mostTime) ⌝ }
+    ensures { λ r. ⌜ r ≡ arrivalAt (now (net .entry)) (values (now (replies .entry))) b q ⌝ }
+    ensures { λ r. ⌜ r ≤ 131070 ⌝ }
 {
-    x as usize
+    if q == 0 {
+        return 0;
+    }
+    nets::lmax(net) + least::at(replies, b * nets::room(net) + q - 1)
 }
 
-// The first numbers of the sheet of flow a, from its draft and the response bounds so far; zeros behind.
-pub fn fill<'a>(
-    nums: &'a [u64; DRAFT],
-    from: &'a [u8; DRAFT],
-    also: &'a [u8; DRAFT],
-    replies: &[u64; PLACES],
-    a: usize,
-    upto: usize,
-) -> [u64; SHEET]
-    requires { ⌜ (a < mostFlows) × HalfSmall (now nums) × Low (now replies) × (upto ≤ sheetSize) ⌝ }
-    ensures { λ r. ⌜ FilledUpTo (now (nums .entry)) (now (from .entry)) (now (also .entry)) (now (replies .entry)) a upto r ⌝ }
-    ensures { λ r. ⌜ ((k : ℕ) → upto ≤ k → values r k ≡ 0) ⌝ }
-    ensures { λ r. ⌜ Small r ⌝ }
+// Where the block of place p begins: each has room for an entry of every flow.
+fn block(net: &[u16], p: usize) -> usize
+    requires { ⌜ p ≤ few ⌝ }
+    ensures { λ r. ⌜ r ≡ 1 + p * blockSize (countIn (now (net .entry))) ⌝ }
+    ensures { λ r. ⌜ r ≤ 20035 ⌝ }
 {
-    let mut sheet = [0u64; SHEET];
-    let at = a * SHEET;
-    let mut k: usize = 0;
-    while k < upto {
-        let place = wide(from[at + k]);
-        let second = wide(also[at + k]);
-        sheet[k] = nums[at + k] + replies[place] + replies[second];
-        k += 1;
+    1 + p * (HEAD + ENTRY * nets::count(net))
+}
+
+// The size of a block, and of each block what it has before its entries.
+fn begin(net: &[u16], ways: &[u64], sheet: &mut [u64], a: usize)
+    requires { ⌜ WaysAre (now net) (now ways) × (a < countIn (now net)) × Small (now sheet) × (1 + lengthIn (now net) a * blockSize (countIn (now net)) ≤ length (now sheet)) ⌝ }
+    ensures { λ r. ⌜ ((φ : ℕ → ℕ) → Filled (now (net .entry)) φ a 0 (now (sheet .exit))) ⌝ }
+    ensures { λ r. ⌜ length (now (sheet .exit)) ≡ length (now (sheet .entry)) ⌝ }
+{
+    let m = nets::hops(net, a);
+    let size = block(net, 1) - 1;
+    sheet[0] = size as u64;
+    let mut p: usize = 0;
+    while p < m {
+        let at = block(net, p);
+        sheet[at] = ways::base(net, ways, a, p);
+        sheet[at + 1] = nets::cost(net, a, p) + nets::jitter(net, a);
+        sheet[at + 2] = 0;
+        p += 1;
     }
-    sheet
+}
+
+// One entry more in the block of place p.
+fn append(
+    net: &[u16],
+    sheet: &mut [u64],
+    p: usize,
+    look: u64,
+    plus: u64,
+    less: u64,
+    period: u64,
+    weight: u64,
+)
+    requires { ⌜ (p ≤ few) × Frame (countIn (now net)) (p + 1) (now sheet) × (entriesIn (now sheet) p < countIn (now net)) × (look < 16777216) × (plus < 16777216) × (less < 16777216) × (period < 16777216) × (weight < 16777216) ⌝ }
+    ensures { λ r. ⌜ Appended (countIn (now (net .entry))) p (entryFrom look plus less period weight) (now (sheet .entry)) (now (sheet .exit)) ⌝ }
+    ensures { λ r. ⌜ length (now (sheet .exit)) ≡ length (now (sheet .entry)) ⌝ }
+{
+    let at = block(net, p);
+    let n = sheet[at + 2];
+    let k = at + HEAD + ENTRY * n as usize;
+    sheet[k] = look;
+    sheet[k + 1] = plus;
+    sheet[k + 2] = less;
+    sheet[k + 3] = period;
+    sheet[k + 4] = weight;
+    sheet[at + 2] = n + 1;
+}
+
+// The entries of flow a itself: from its second packet on, for its first stands in what hangs on nothing.
+fn write_own(net: &[u16], sheet: &mut [u64], a: usize)
+    requires { ⌜ (a < countIn (now net)) × Roomy (countIn (now net)) (lengthIn (now net) a) (now sheet) ⌝ }
+    ensures { λ r. ⌜ Grown (Valid (netIn (now (net .entry)))) (countIn (now (net .entry))) (lengthIn (now (net .entry)) a) (λ p. ownAt (now (net .entry)) a p ∷ []) (now (sheet .entry)) (now (sheet .exit)) ⌝ }
+    ensures { λ r. ⌜ length (now (sheet .exit)) ≡ length (now (sheet .entry)) ⌝ }
+{
+    let m = nets::hops(net, a);
+    let period = nets::period(net, a);
+    let mut weight: u64 = 0;
+    let mut p: usize = 0;
+    while p < m {
+        weight = least::greater(weight, nets::cost(net, a, p));
+        append(net, sheet, p, INSTANT as u64, 0, period, period, weight);
+        p += 1;
+    }
+}
+
+// The place of the last node that b shares, with one place more of a's path.
+fn later(net: &[u16], pairs: &[u8], a: usize, b: usize, last: usize, p: usize) -> usize
+    requires { ⌜ Noted (now net) (now pairs) a b × (p < lengthIn (now net) a) ⌝ }
+    ensures { λ r. ⌜ r ≡ pick (ltb (placeOn (now (net .entry)) a b p) (lengthIn (now (net .entry)) b)) p last ⌝ }
+{
+    if crossings::place(net, pairs, a, b, p) < nets::hops(net, b) {
+        return p;
+    }
+    last
+}
+
+// Where a higher flow's count looks: at W at the last node shared, which is the one sought if it is the last of the prefix.
+fn look_at(last: usize, p: usize) -> u64
+    requires { ⌜ (last ≤ few) × (p ≤ few) ⌝ }
+    ensures { λ r. ⌜ r ≡ pick (eqb last p) hereSlot (nodeSlot last) ⌝ }
+    ensures { λ r. ⌜ r ≤ 65 ⌝ }
+{
+    if last == p {
+        return HERE as u64;
+    }
+    (NODE + last) as u64
+}
+
+// J of flow b and its S, at place k of a's path.
+fn delay(net: &[u16], pairs: &[u8], replies: &[u64], a: usize, b: usize, k: usize) -> u64
+    requires { ⌜ Noted (now net) (now pairs) a b × (k < lengthIn (now net) a) × ((k : ℕ) → values (now replies) k ≤ mostTime) ⌝ }
+    ensures { λ r. ⌜ r ≡ fieldIn (now (net .entry)) b 3 + arrivalAt (now (net .entry)) (values (now (replies .entry))) b (placeOn (now (net .entry)) a b k) ⌝ }
+    ensures { λ r. ⌜ r ≤ 196605 ⌝ }
+{
+    nets::jitter(net, b) + arrival(net, replies, b, crossings::place(net, pairs, a, b, k))
+}
+
+// Smin of flow b at place k of a's path, which it passes.
+fn smallest(net: &[u16], pairs: &[u8], ways: &[u64], a: usize, b: usize, k: usize) -> u64
+    requires { ⌜ Noted (now net) (now pairs) a b × WaysAre (now net) (now ways) × (k < lengthIn (now net) a) × (placeOn (now net) a b k < lengthIn (now net) b) ⌝ }
+    ensures { λ r. ⌜ (Valid (netIn (now (net .entry))) → r ≡ sminTo (netIn (now (net .entry))) (flowIn (now (net .entry)) b) (placeOn (now (net .entry)) a b k)) ⌝ }
+    ensures { λ r. ⌜ r ≤ 8257410 ⌝ }
+{
+    ways::smallest_time(net, ways, b, crossings::place(net, pairs, a, b, k))
+}
+
+// b's slowest cost, with one place more of a's path.
+fn heavier(net: &[u16], pairs: &[u8], a: usize, b: usize, weight: u64, p: usize) -> u64
+    requires { ⌜ Noted (now net) (now pairs) a b × (p < lengthIn (now net) a) × (weight ≤ 65535) ⌝ }
+    ensures { λ r. ⌜ r ≡ max weight (costOn (now (net .entry)) a b p) ⌝ }
+    ensures { λ r. ⌜ r ≤ 65535 ⌝ }
+{
+    least::greater(weight, crossings::cost_on(net, pairs, a, b, p))
+}
+
+// The entries of a higher flow b, from the first place that it shares on.
+fn write_higher(
+    net: &[u16],
+    pairs: &[u8],
+    ways: &[u64],
+    replies: &[u64],
+    sheet: &mut [u64],
+    a: usize,
+    b: usize,
+)
+    requires { ⌜ Given (now net) (now pairs) (now ways) (now replies) a b × Roomy (countIn (now net)) (lengthIn (now net) a) (now sheet) ⌝ }
+    ensures { λ r. ⌜ Joined (now (net .entry)) a b (higherAt (now (net .entry)) a b (values (now (replies .entry)))) (now (sheet .entry)) (now (sheet .exit)) ⌝ }
+    ensures { λ r. ⌜ length (now (sheet .exit)) ≡ length (now (sheet .entry)) ⌝ }
+{
+    let m = nets::hops(net, a);
+    let first = crossings::first(net, pairs, a, b);
+    if m <= first {
+        return;
+    }
+    let plus = delay(net, pairs, replies, a, b, first);
+    let way = ways::least_way(net, ways, a, first);
+    let period = nets::period(net, b);
+    let mut last = first;
+    let mut weight: u64 = 0;
+    let mut p = first;
+    while p < m {
+        last = later(net, pairs, a, b, last, p);
+        weight = heavier(net, pairs, a, b, weight, p);
+        let less = way + smallest(net, pairs, ways, a, b, last);
+        append(net, sheet, p, look_at(last, p), plus, less, period, weight);
+        p += 1;
+    }
+}
+
+// The place of a's path whose node stands first on b's, with one place more.
+fn nearer(net: &[u16], pairs: &[u8], a: usize, b: usize, g: usize, p: usize) -> usize
+    requires { ⌜ Noted (now net) (now pairs) a b × (g < lengthIn (now net) a) × (p < lengthIn (now net) a) ⌝ }
+    ensures { λ r. ⌜ r ≡ pick (ltb (placeOn (now (net .entry)) a b p) (placeOn (now (net .entry)) a b g)) p g ⌝ }
+{
+    if crossings::place(net, pairs, a, b, p) < crossings::place(net, pairs, a, b, g) {
+        return p;
+    }
+    g
+}
+
+// The entries of an equal flow b, from the first place that it shares on.
+fn write_equal(
+    net: &[u16],
+    pairs: &[u8],
+    ways: &[u64],
+    replies: &[u64],
+    sheet: &mut [u64],
+    a: usize,
+    b: usize,
+)
+    requires { ⌜ Given (now net) (now pairs) (now ways) (now replies) a b × Roomy (countIn (now net)) (lengthIn (now net) a) (now sheet) ⌝ }
+    ensures { λ r. ⌜ Joined (now (net .entry)) a b (equalAt (now (net .entry)) a b (values (now (replies .entry)))) (now (sheet .entry)) (now (sheet .exit)) ⌝ }
+    ensures { λ r. ⌜ length (now (sheet .exit)) ≡ length (now (sheet .entry)) ⌝ }
+{
+    let m = nets::hops(net, a);
+    let first = crossings::first(net, pairs, a, b);
+    if m <= first {
+        return;
+    }
+    let plus = delay(net, pairs, replies, a, b, first);
+    let way = nets::jitter(net, a) + ways::least_way(net, ways, a, first);
+    let period = nets::period(net, b);
+    let mut g = first;
+    let mut weight: u64 = 0;
+    let mut p = first;
+    while p < m {
+        g = nearer(net, pairs, a, b, g, p);
+        weight = heavier(net, pairs, a, b, weight, p);
+        let less = way + smallest(net, pairs, ways, a, b, g);
+        let more = plus + arrival(net, replies, a, g);
+        append(net, sheet, p, INSTANT as u64, more, less, period, weight);
+        p += 1;
+    }
+}
+
+// The entries of flow b, by what it is to a; none of a lower one.
+fn write_flow(
+    net: &[u16],
+    pairs: &[u8],
+    ways: &[u64],
+    replies: &[u64],
+    sheet: &mut [u64],
+    a: usize,
+    b: usize,
+)
+    requires { ⌜ Given (now net) (now pairs) (now ways) (now replies) a b × Filled (now net) (values (now replies)) a b (now sheet) ⌝ }
+    ensures { λ r. ⌜ Filled (now (net .entry)) (values (now (replies .entry))) a (b + 1) (now (sheet .exit)) ⌝ }
+    ensures { λ r. ⌜ length (now (sheet .exit)) ≡ length (now (sheet .entry)) ⌝ }
+{
+    let side = crossings::side(net, pairs, a, b);
+    if side == crossings::OWN {
+        write_own(net, sheet, a);
+        return;
+    }
+    if side == crossings::HIGHER {
+        write_higher(net, pairs, ways, replies, sheet, a, b);
+        return;
+    }
+    if side == crossings::EQUAL {
+        write_equal(net, pairs, ways, replies, sheet, a, b);
+    }
+}
+
+// The sheet of flow a, with the response bounds so far.
+pub fn write(net: &[u16], pairs: &[u8], ways: &[u64], replies: &[u64], sheet: &mut [u64], a: usize)
+    requires { ⌜ Noted (now net) (now pairs) a a × WaysAre (now net) (now ways) × ((k : ℕ) → values (now replies) k ≤ mostTime) × Small (now sheet) × (1 + lengthIn (now net) a * (3 + 5 * countIn (now net)) ≤ length (now sheet)) × (length (now sheet) ≤ 16777216) ⌝ }
+    ensures { λ r. ⌜ (Valid (netIn (now (net .entry))) → SheetIs (netIn (now (net .entry))) (roomIn (now (net .entry))) (values (now (replies .entry))) a (now (sheet .exit))) ⌝ }
+    ensures { λ r. ⌜ Shaped (now (sheet .exit)) (lengthIn (now (net .entry)) a) ⌝ }
+    ensures { λ r. ⌜ length (now (sheet .exit)) ≡ length (now (sheet .entry)) ⌝ }
+{
+    begin(net, ways, sheet, a);
+    let n = nets::count(net);
+    let mut b: usize = 0;
+    while b < n {
+        write_flow(net, pairs, ways, replies, sheet, a, b);
+        b += 1;
+    }
 }

@@ -2,71 +2,71 @@
 use mathlib.Core.Path.{_≡_, refl, sym, ap, _∙_, subst}
 use mathlib.Core.Bool.{Bool, true, false}
 use mathlib.Core.List.{List}
-use Prim.Native.Nat.{ℕ, _+_, _≤_, _<_}
+use Prim.Native.Nat.{ℕ, _+_, _-_, _≤_, _<_}
 use native.Mathlib.Omega.{arith}
 use lib.Dec.{eqb}
 use lib.ListN.{length, set, length-set}
 use lib.Seq.{getD-set-same, getD-set-other}
 use borrow.Author.Tests.{eqb-true, eqb-false}
 use Rattle.least.specs.Count.{pick}
+use Rattle.least.specs.Lists.{values}
 use Rattle.least.specs.Fixed.{Under}
 use Rattle.least.proofs.Fixed.{under-step, under-done}
-use Rattle.starts.specs.Sheet.{mostTime, hereSlot, instantSlot, values, added, sheetSum, seen, sums, Small, Fit}
-use Rattle.starts.specs.Begins.{BeginIs}
+use Rattle.starts.specs.Sheet.{mostTime, hereSlot, instantSlot, nodeSlot, added, sheetSum, seen, sums, Small, Fit}
+use Rattle.starts.specs.Begins.{BeginIs, Kept}
 use Rattle.starts.specs.declared.Begin.the-variants.{At, Past}
 use Rattle.starts.proofs.Sums.{sheet-ext, sums-rising}
+use Rattle.starts.proofs.Nodes.{set-cases, nodes}
 
--- all slots but the one of the starting time sought are as at first
-pub record Kept (s₀ s : List ℕ) : Type 0 where
-  pub long : length s ≡ 16
-  pub same : (k : ℕ) → (k ≡ hereSlot → ⊥) → values s k ≡ values s₀ k
+pub kept-none : {s : List ℕ} → Small s → Kept s s
+kept-none small = record { others = λ k h. refl; small = small; long = refl }
 
-module _ (s₀ s : List ℕ) (kept : Kept s₀ s) (w : ℕ) where
-  pub kept-set : Kept s₀ (set s hereSlot w)
-  kept-set = record {
+module _ (s₀ s : List ℕ) (kept : Kept s₀ s) (room : 0 < length s₀) (w : ℕ) where
+  pub kept-set : w < 16777216 → Kept s₀ (set s hereSlot w)
+  kept-set h = record {
+    others = λ k q. getD-set-other s hereSlot k w 0 q ∙ kept .others k q;
+    small = set-cases (λ j v. v < 16777216) s hereSlot w (omega (arith, kept .long)) h (λ j q. kept .small j);
     long = simp length-set (kept .long);
-    same = λ k h. getD-set-other s hereSlot k w 0 h ∙ kept .same k h;
   }
 
-  slots-seen : (k : ℕ) → values (set s hereSlot w) k ≡ seen (values s₀) w (values s₀ instantSlot) k
+  slots-seen : (k : ℕ) → values (set s hereSlot w) k ≡ seen (nodes s₀) w (values s₀ instantSlot) k
   slots-seen k = go (eqb k hereSlot) refl (eqb k instantSlot) refl
     where
+      other : (k ≡ hereSlot → ⊥) → values (set s hereSlot w) k ≡ values s₀ k
+      other h = getD-set-other s hereSlot k w 0 h ∙ kept .others k h
+
       go : (a : Bool) → eqb k hereSlot ≡ a → (b : Bool) → eqb k instantSlot ≡ b →
-          values (set s hereSlot w) k ≡ pick a w (pick b (values s₀ instantSlot) (values s₀ k))
+          values (set s hereSlot w) k ≡ pick a w (pick b (values s₀ instantSlot) (nodes s₀ (k - 2)))
       go true e b q = subst (λ j. values (set s hereSlot w) j ≡ w) (sym (eqb-true k hereSlot e)) (getD-set-same s hereSlot w 0 (omega (arith, kept .long)))
-      go false e true q =
-          getD-set-other s hereSlot k w 0 (eqb-false k hereSlot e) ∙ kept .same k (eqb-false k hereSlot e) ∙ ap (values s₀) (eqb-true k instantSlot q)
-      go false e false q = getD-set-other s hereSlot k w 0 (eqb-false k hereSlot e) ∙ kept .same k (eqb-false k hereSlot e)
+      go false e true q = other (eqb-false k hereSlot e) ∙ ap (values s₀) (eqb-true k instantSlot q)
+      go false e false q =
+          let h = eqb-false k hereSlot e in
+          let g = eqb-false k instantSlot q in
+          let r : k ≡ nodeSlot (k - 2) = omega (arith, h, g) in
+          other h ∙ ap (values s₀) r
 
-  pub slots-small : Small s₀ → w < 16777216 → Small (set s hereSlot w)
-  slots-small h q k = go (eqb k hereSlot) refl
-    where
-      go : (a : Bool) → eqb k hereSlot ≡ a → values (set s hereSlot w) k < 16777216
-      go true e = subst (λ j. values (set s hereSlot w) j < 16777216) (sym (eqb-true k hereSlot e)) (omega (arith, getD-set-same s hereSlot w 0 (omega (arith, kept .long))))
-      go false e = omega (arith, getD-set-other s hereSlot k w 0 (eqb-false k hereSlot e), kept .same k (eqb-false k hereSlot e), h k)
-
-  pub slots-sum : (e : List ℕ) (n p : ℕ) → sheetSum e p n (values (set s hereSlot w)) ≡ sums e n (values s₀ instantSlot) p (values s₀) w
-  slots-sum e n p = sheet-ext e p n (values (set s hereSlot w)) (seen (values s₀) w (values s₀ instantSlot)) slots-seen
+  pub slots-sum : (e : List ℕ) (p : ℕ) → sheetSum e p (values (set s hereSlot w)) ≡ sums e (values s₀ instantSlot) p (nodes s₀) w
+  slots-sum e p = sheet-ext e p (values (set s hereSlot w)) (seen (nodes s₀) w (values s₀ instantSlot)) slots-seen
 
 -- from is under, and so is w
-abbrev pub Climbs : List ℕ → ℕ → ℕ → List ℕ → ℕ → ℕ → Type 0
-Climbs e n p s₀ from w =
-    Fit e n (p + 1) → Under (sums e n (values s₀ instantSlot) p (values s₀)) from → Under (sums e n (values s₀ instantSlot) p (values s₀)) w
+abbrev pub Climbs : List ℕ → ℕ → List ℕ → ℕ → ℕ → Type 0
+Climbs e p s₀ from w =
+    Fit e (p + 1) → Under (sums e (values s₀ instantSlot) p (nodes s₀)) from → Under (sums e (values s₀ instantSlot) p (nodes s₀)) w
 
-module _ (e : List ℕ) (n p : ℕ) (s₀ s : List ℕ) (from w : ℕ) (kept : Kept s₀ s) (climbs : Climbs e n p s₀ from w)
-    (r : ℕ) (sum : r ≡ sheetSum e p n (values (set s hereSlot w))) where
-  is : r ≡ sums e n (values s₀ instantSlot) p (values s₀) w
-  is = sum ∙ slots-sum s₀ s kept w e n p
+module _ (e : List ℕ) (p : ℕ) (s₀ s : List ℕ) (from w : ℕ) (kept : Kept s₀ s) (room : 0 < length s₀) (climbs : Climbs e p s₀ from w)
+    (r : ℕ) (sum : r ≡ sheetSum e p (values (set s hereSlot w))) where
+  is : r ≡ sums e (values s₀ instantSlot) p (nodes s₀) w
+  is = sum ∙ slots-sum s₀ s kept room w e p
 
-  pub climbs-more : Climbs e n p s₀ from r
+  pub climbs-more : Climbs e p s₀ from r
   climbs-more fit u =
-      subst (Under (sums e n (values s₀ instantSlot) p (values s₀))) (sym is)
-      (under-step (sums-rising e n (p + 1) fit (values s₀ instantSlot) p (omega arith) (values s₀)) (climbs fit u))
+      subst (Under (sums e (values s₀ instantSlot) p (nodes s₀))) (sym is)
+      (under-step (sums-rising e (p + 1) fit (values s₀ instantSlot) p (omega arith) (nodes s₀)) (climbs fit u))
 
   pub climbs-at : r ≤ w →
-      (Fit e n (p + 1) → Under (sums e n (values s₀ instantSlot) p (values s₀)) from → BeginIs e n (values s₀ instantSlot) p (values s₀) (At w))
+      (Fit e (p + 1) → Under (sums e (values s₀ instantSlot) p (nodes s₀)) from → BeginIs e (values s₀ instantSlot) p (nodes s₀) (At w))
   climbs-at h fit u = under-done (climbs fit u) (omega (arith, is))
 
-pub climbs-past : (e : List ℕ) (n p : ℕ) (s₀ : List ℕ) (from w : ℕ) → Climbs e n p s₀ from w → mostTime + values s₀ instantSlot < w + added e p →
-    (Fit e n (p + 1) → Under (sums e n (values s₀ instantSlot) p (values s₀)) from → BeginIs e n (values s₀ instantSlot) p (values s₀) Past)
-climbs-past e n p s₀ from w climbs h fit u v q = omega (arith, climbs fit u .low v q)
+pub climbs-past : (e : List ℕ) (p : ℕ) (s₀ : List ℕ) (from w : ℕ) → Climbs e p s₀ from w → mostTime + values s₀ instantSlot < w + added e p →
+    (Fit e (p + 1) → Under (sums e (values s₀ instantSlot) p (nodes s₀)) from → BeginIs e (values s₀ instantSlot) p (nodes s₀) Past)
+climbs-past e p s₀ from w climbs h fit u v q = omega (arith, climbs fit u .low v q)

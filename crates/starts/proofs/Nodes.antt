@@ -9,10 +9,11 @@ use lib.ListN.{length, set, length-set}
 use lib.Seq.{getD-set-same, getD-set-other}
 use borrow.Author.Count.{below-more}
 use borrow.Author.Tests.{eqb-true, eqb-false}
+use Rattle.least.specs.Lists.{values}
 use Rattle.least.specs.Fixed.{Least, Under}
-use Rattle.starts.specs.Sheet.{mostNodes, mostTime, instantSlot, values, added, sums, Small, Fit, StartsOf, prior}
-use Rattle.starts.specs.Begins.{BeginIs, BeginFits}
-use Rattle.starts.specs.Runs.{Within, AtNode, PastAt}
+use Rattle.starts.specs.Sheet.{mostTime, instantSlot, nodeSlot, added, sums, Small, Shaped, Fit, StartsOf, prior}
+use Rattle.starts.specs.Begins.{BeginIs, BeginFits, Kept}
+use Rattle.starts.specs.Runs.{LowTo, Behind, AtNode, PastAt}
 use Rattle.starts.specs.declared.Begin.{Begin}
 use Rattle.starts.specs.declared.Begin.the-variants.{At, Past}
 use Rattle.starts.proofs.Sums.{sums-same, start-found, from-under}
@@ -26,32 +27,61 @@ set-cases P l k v h here there j = go (eqb j k) refl
     go true e = subst (λ i. P i (values (set l k v) i)) (sym (eqb-true j k e)) (subst (P k) (sym (getD-set-same l k v 0 h)) here)
     go false e = subst (P j) (sym (getD-set-other l k j v 0 (eqb-false j k e))) (there j (eqb-false j k e))
 
-pub fit-less : {e : List ℕ} {n m m′ : ℕ} → m′ ≤ m → Fit e n m → Fit e n m′
-fit-less h f = record { small = f .small; back = λ p j a b. f .back p j (omega arith) b }
+pub behind-none : {m : ℕ} {l : List ℕ} → Behind m l l
+behind-none = record { rest = λ k h. refl; long = refl }
+
+pub behind-then : {m : ℕ} {l l′ l″ : List ℕ} → Behind m l l′ → Behind m l′ l″ → Behind m l l″
+behind-then a b = record { rest = λ k h. b .rest k h ∙ a .rest k h; long = b .long ∙ a .long }
+
+pub behind-set : (m : ℕ) (l₀ l : List ℕ) (k v : ℕ) → k < m → Behind m l₀ l → Behind m l₀ (set l k v)
+behind-set m l₀ l k v h b = record {
+  rest = λ j q. getD-set-other l k j v 0 (λ z. omega arith) ∙ b .rest j q;
+  long = simp length-set (b .long);
+}
+
+pub shaped-less : {e : List ℕ} {m m′ : ℕ} → m′ ≤ m → Shaped e m → Shaped e m′
+shaped-less h s = record { whole = λ p q. s .whole p (omega arith); few = λ p q. s .few p (omega arith); short = s .short; small = s .small }
+
+pub fit-less : (e : List ℕ) (m m′ : ℕ) → m′ ≤ m → Fit e m → Fit e m′
+fit-less e m m′ h f p q a b = f p q (omega arith) b
+
+-- the starting times in the slots
+abbrev pub nodes : List ℕ → ℕ → ℕ
+nodes slots q = values slots (nodeSlot q)
 
 -- what the nodes before p have found, and what is left as it was
 pub record Passed (e : List ℕ) (W : ℕ → ℕ → ℕ) (m u : ℕ) (best₀ slots best : List ℕ) (p : ℕ) : Type 0 where
   pub found : (k : ℕ) → k < p → AtNode e W u best₀ slots best k
-  pub left : (k : ℕ) → p ≤ k → k < m → values slots k ≡ prior W u k
+  pub left : (k : ℕ) → p ≤ k → k < m → nodes slots k ≡ prior W u k
   pub kept : (k : ℕ) → p ≤ k → values best k ≡ values best₀ k
 
-pub record Going (e : List ℕ) (n m u : ℕ) (slots₀ best₀ slots best : List ℕ) (p : ℕ) : Type 0 where
+-- the slots hold the starting times of the instant before
+abbrev pub Priors : (ℕ → ℕ → ℕ) → ℕ → ℕ → List ℕ → Type 0
+Priors W m u slots = (k : ℕ) → k < m → nodes slots k ≡ prior W u k
+
+pub record Going (e : List ℕ) (m u : ℕ) (slots₀ best₀ slots best : List ℕ) (p : ℕ) : Type 0 where
   pub few : p ≤ m
-  pub long : length slots ≡ 16
+  pub room : nodeSlot m ≤ length slots
+  pub long : length slots ≡ length slots₀
+  pub wide : m ≤ length best
   pub time : values slots instantSlot ≡ u
   pub small : Small slots
-  pub within : Within m best
-  pub passed : (W : ℕ → ℕ → ℕ) → Fit e n m → StartsOf e n m W → ((k : ℕ) → k < m → values slots₀ k ≡ prior W u k) → Passed e W m u best₀ slots best p
+  pub low : LowTo m best
+  pub behind : Behind m best₀ best
+  pub passed : (W : ℕ → ℕ → ℕ) → Fit e m → StartsOf e m W → Priors W m u slots₀ → Passed e W m u best₀ slots best p
 
-module _ (e : List ℕ) (n m u : ℕ) (most : m ≤ mostNodes) where
-  pub going-start : (slots best : List ℕ) → length slots ≡ 16 → u ≤ mostTime → Small slots → Within m best →
-      Going e n m u (set slots instantSlot u) best (set slots instantSlot u) best 0
-  going-start slots best long short small within = record {
+module _ (e : List ℕ) (m u : ℕ) where
+  pub going-start : (slots best : List ℕ) → nodeSlot m ≤ length slots → m ≤ length best → u ≤ mostTime → Small slots → LowTo m best →
+      Going e m u (set slots instantSlot u) best (set slots instantSlot u) best 0
+  going-start slots best room wide short small low = record {
     few = omega arith;
-    long = simp length-set long;
+    room = simp length-set room;
+    long = refl;
+    wide = wide;
     time = getD-set-same slots instantSlot u 0 (omega arith);
     small = set-cases (λ j v. v < 16777216) slots instantSlot u (omega arith) (omega arith) (λ j h. small j);
-    within = within;
+    low = low;
+    behind = behind-none;
     passed = λ W fit starts first. record {
       found = λ k h. absurd (omega arith);
       left = λ k h q. first k q;
@@ -60,97 +90,112 @@ module _ (e : List ℕ) (n m u : ℕ) (most : m ≤ mostNodes) where
   }
 
   -- the instant's slot is none of the nodes'
-  pub first-set : (slots : List ℕ) (W : ℕ → ℕ → ℕ) → ((k : ℕ) → k < m → values slots k ≡ prior W u k) → (k : ℕ) → k < m → values (set slots instantSlot u) k ≡ prior W u k
-  first-set slots W first k h = getD-set-other slots instantSlot k u 0 (λ z. omega arith) ∙ first k h
+  pub first-set : (slots : List ℕ) (W : ℕ → ℕ → ℕ) → Priors W m u slots → Priors W m u (set slots instantSlot u)
+  first-set slots W first k h = getD-set-other slots instantSlot (nodeSlot k) u 0 (λ z. omega arith) ∙ first k h
 
-  module _ (slots₀ best₀ slots best : List ℕ) (p : ℕ) (going : Going e n m u slots₀ best₀ slots best p) (on : p < m) where
+  -- nor is that of the starting time sought
+  pub going-kept : (slots₀ best₀ slots slots′ best : List ℕ) (p : ℕ) → Kept slots slots′ → Going e m u slots₀ best₀ slots best p → Going e m u slots₀ best₀ slots′ best p
+  going-kept slots₀ best₀ slots slots′ best p kept going = record {
+    few = going .few;
+    room = omega (arith, going .room, kept .long);
+    long = kept .long ∙ going .long;
+    wide = going .wide;
+    time = kept .others instantSlot (λ z. omega arith) ∙ going .time;
+    small = kept .small;
+    low = going .low;
+    behind = going .behind;
+    passed = λ W fit starts first. (let old = going .passed W fit starts first in record {
+      found = λ k h. record {
+        start = kept .others (nodeSlot k) (λ z. omega arith) ∙ old .found k h .start;
+        greatest = old .found k h .greatest;
+        within = old .found k h .within;
+      };
+      left = λ k h q. kept .others (nodeSlot k) (λ z. omega arith) ∙ old .left k h q;
+      kept = old .kept;
+    });
+  }
+
+  module _ (slots₀ best₀ slots best : List ℕ) (p : ℕ) (going : Going e m u slots₀ best₀ slots best p) (on : p < m) where
     -- the starting times so far, and the one before at p
-    module _ (W : ℕ → ℕ → ℕ) (fit : Fit e n m) (starts : StartsOf e n m W) (first : (k : ℕ) → k < m → values slots₀ k ≡ prior W u k) where
-      earlier : (l : ℕ) → l < p → values slots l ≡ W u l
+    module _ (W : ℕ → ℕ → ℕ) (fit : Fit e m) (starts : StartsOf e m W) (first : Priors W m u slots₀) where
+      earlier : (l : ℕ) → l < p → nodes slots l ≡ W u l
       earlier l h = going .passed W fit starts first .found l h .start
 
-      under : Under (sums e n (values slots instantSlot) p (values slots)) (values slots p)
+      under : Under (sums e (values slots instantSlot) p (nodes slots)) (nodes slots p)
       under =
-          subst (Under (sums e n (values slots instantSlot) p (values slots))) (sym (going .passed W fit starts first .left p (omega arith) on))
-          (subst (λ v. Under (sums e n v p (values slots)) (prior W u p)) (sym (going .time)) (from-under e n m fit W starts u p on (values slots) earlier))
+          subst (Under (sums e (values slots instantSlot) p (nodes slots))) (sym (going .passed W fit starts first .left p (omega arith) on))
+          (subst (λ v. Under (sums e v p (nodes slots)) (prior W u p)) (sym (going .time)) (from-under e m fit W starts u p on (nodes slots) earlier))
 
-      found-sum : sums e n (values slots instantSlot) p (values slots) (W u p) ≤ W u p
+      found-sum : sums e (values slots instantSlot) p (nodes slots) (W u p) ≤ W u p
       found-sum =
-          subst (λ v. sums e n v p (values slots) (W u p) ≤ W u p) (sym (going .time))
-          (omega (arith, sums-same e n m fit u p on (values slots) (W u) earlier (W u p), starts u p on .fixed))
+          subst (λ v. sums e v p (nodes slots) (W u p) ≤ W u p) (sym (going .time))
+          (omega (arith, sums-same e m fit u p on (nodes slots) (W u) earlier (W u p), starts u p on .fixed))
 
     -- what start_at gives at p
     module _ (r : Begin)
-        (begin : Fit e n (p + 1) → Under (sums e n (values slots instantSlot) p (values slots)) (values slots p) →
-        BeginIs e n (values slots instantSlot) p (values slots) r)
-        (fits : BeginFits e (values slots instantSlot) p r) where
-      pub going-past : r ≡ Past →
-          (W : ℕ → ℕ → ℕ) → Fit e n m → StartsOf e n m W → ((k : ℕ) → k < m → values slots₀ k ≡ prior W u k) → PastAt e m W u
+        (begin : Fit e (p + 1) → Under (sums e (values slots instantSlot) p (nodes slots)) (nodes slots p) → BeginIs e (values slots instantSlot) p (nodes slots) r) where
+      pub going-past : r ≡ Past → (W : ℕ → ℕ → ℕ) → Fit e m → StartsOf e m W → Priors W m u slots₀ → PastAt e m W u
       going-past is W fit starts first =
-          let past = subst (BeginIs e n (values slots instantSlot) p (values slots)) is (begin (fit-less (omega arith) fit) (under W fit starts first)) in
+          let past = subst (BeginIs e (values slots instantSlot) p (nodes slots)) is (begin (fit-less e m (p + 1) (omega arith) fit) (under W fit starts first)) in
           record { node = p; on = on; past = omega (arith, going .time, past (W u p) (found-sum W fit starts first)) }
 
-      pub begin-small : (w : ℕ) → r ≡ At w → w + added e p ≤ mostTime + u
-      begin-small w is = omega (arith, going .time, subst (BeginFits e (values slots instantSlot) p) is fits)
+      module _ (fits : BeginFits e (values slots instantSlot) p r) (w : ℕ) (at : r ≡ At w) where
+        pub begin-small : w + added e p ≤ mostTime + u
+        begin-small = omega (arith, going .time, subst (BeginFits e (values slots instantSlot) p) at fits)
 
-    module _ (r : Begin)
-        (begin : Fit e n (p + 1) → Under (sums e n (values slots instantSlot) p (values slots)) (values slots p) →
-        BeginIs e n (values slots instantSlot) p (values slots) r)
-        (fits : BeginFits e (values slots instantSlot) p r) (w b : ℕ) (at : r ≡ At w) (is : b ≡ max (values best p) (w + added e p - u)) (short : u ≤ mostTime) where
-      within : w + added e p ≤ mostTime + u
-      within = begin-small r begin fits w at
+        start : (W : ℕ → ℕ → ℕ) → Fit e m → StartsOf e m W → Priors W m u slots₀ → w ≡ W u p
+        start W fit starts first =
+            start-found e m fit W starts u p w on (nodes slots) (earlier W fit starts first)
+            (subst (λ v. Least (sums e v p (nodes slots)) w) (going .time)
+            (subst (BeginIs e (values slots instantSlot) p (nodes slots)) at (begin (fit-less e m (p + 1) (omega arith) fit) (under W fit starts first))))
 
-      module _ (W : ℕ → ℕ → ℕ) (fit : Fit e n m) (starts : StartsOf e n m W) (first : (k : ℕ) → k < m → values slots₀ k ≡ prior W u k) where
-        start : w ≡ W u p
-        start =
-            start-found e n m fit W starts u p w on (values slots) (earlier W fit starts first)
-            (subst (λ v. Least (sums e n v p (values slots)) w) (going .time)
-            (subst (BeginIs e n (values slots instantSlot) p (values slots)) at (begin (fit-less (omega arith) fit) (under W fit starts first))))
+        module _ (slots′ : List ℕ) (kept : Kept slots slots′) (b : ℕ) (is : b ≡ max (values best p) (w + added e p - u)) (short : u ≤ mostTime) where
+          now : Going e m u slots₀ best₀ slots′ best p
+          now = going-kept slots₀ best₀ slots slots′ best p kept going
 
-        old : Passed e W m u best₀ slots best p
-        old = going .passed W fit starts first
+          module _ (W : ℕ → ℕ → ℕ) (fit : Fit e m) (starts : StartsOf e m W) (first : Priors W m u slots₀) where
+            old : Passed e W m u best₀ slots′ best p
+            old = now .passed W fit starts first
 
-        here : AtNode e W u best₀ (set slots p w) (set best p b) p
-        here = record {
-          start = getD-set-same slots p w 0 (omega (arith, going .long)) ∙ start;
-          greatest = omega (
-            arith,
-            getD-set-same best p b 0 (omega (arith, going .within .long)),
-            old .kept p (omega arith),
-            start,
-          );
-          within = omega (arith, within, start);
-        }
+            here : AtNode e W u best₀ (set slots′ (nodeSlot p) w) (set best p b) p
+            here = record {
+              start = getD-set-same slots′ (nodeSlot p) w 0 (omega (arith, now .room)) ∙ start W fit starts first;
+              greatest = omega (
+                arith,
+                getD-set-same best p b 0 (omega (arith, going .wide)),
+                old .kept p (omega arith),
+                start W fit starts first,
+              );
+              within = omega (arith, begin-small, start W fit starts first);
+            }
 
-        there : (k : ℕ) → k < p → AtNode e W u best₀ (set slots p w) (set best p b) k
-        there k h = record {
-          start = getD-set-other slots p k w 0 (λ z. omega arith) ∙ old .found k h .start;
-          greatest = getD-set-other best p k b 0 (λ z. omega arith) ∙ old .found k h .greatest;
-          within = old .found k h .within;
-        }
+            there : (k : ℕ) → k < p → AtNode e W u best₀ (set slots′ (nodeSlot p) w) (set best p b) k
+            there k h = record {
+              start = getD-set-other slots′ (nodeSlot p) (nodeSlot k) w 0 (λ z. omega arith) ∙ old .found k h .start;
+              greatest = getD-set-other best p k b 0 (λ z. omega arith) ∙ old .found k h .greatest;
+              within = old .found k h .within;
+            }
 
-        passed : Passed e W m u best₀ (set slots p w) (set best p b) (p + 1)
-        passed = record {
-          found = below-more (AtNode e W u best₀ (set slots p w) (set best p b)) p there here;
-          left = λ k h q. getD-set-other slots p k w 0 (λ z. omega arith) ∙ old .left k (omega arith) q;
-          kept = λ k h. getD-set-other best p k b 0 (λ z. omega arith) ∙ old .kept k (omega arith);
-        }
+            passed : Passed e W m u best₀ (set slots′ (nodeSlot p) w) (set best p b) (p + 1)
+            passed = record {
+              found = below-more (AtNode e W u best₀ (set slots′ (nodeSlot p) w) (set best p b)) p there here;
+              left = λ k h q. getD-set-other slots′ (nodeSlot p) (nodeSlot k) w 0 (λ z. omega arith) ∙ old .left k (omega arith) q;
+              kept = λ k h. getD-set-other best p k b 0 (λ z. omega arith) ∙ old .kept k (omega arith);
+            }
 
-      pub going-more : Going e n m u slots₀ best₀ (set slots p w) (set best p b) (p + 1)
-      going-more = record {
-        few = omega arith;
-        long = simp length-set (going .long);
-        time = getD-set-other slots p instantSlot w 0 (λ z. omega arith) ∙ going .time;
-        small = set-cases (λ j v. v < 16777216) slots p w (omega (arith, going .long)) (omega (arith, within)) (λ j h. going .small j);
-        within = record {
-          long = simp length-set (going .within .long);
-          low = set-cases (λ j v. v ≤ mostTime) best p b (omega (arith, going .within .long)) (omega (arith, within, going .within .low p)) (λ j h. going .within .low j);
-          rest = λ k h. getD-set-other best p k b 0 (λ z. omega arith) ∙ going .within .rest k h;
-        };
-        passed = passed;
-      }
+          pub going-more : Going e m u slots₀ best₀ (set slots′ (nodeSlot p) w) (set best p b) (p + 1)
+          going-more = record {
+            few = omega arith;
+            room = simp length-set (now .room);
+            long = simp length-set (now .long);
+            wide = simp length-set (now .wide);
+            time = getD-set-other slots′ (nodeSlot p) instantSlot w 0 (λ z. omega arith) ∙ now .time;
+            small = set-cases (λ j v. v < 16777216) slots′ (nodeSlot p) w (omega (arith, now .room)) (omega (arith, begin-small)) (λ j h. now .small j);
+            low = λ j q. set-cases (λ j v. j < m → v ≤ mostTime) best p b (omega (arith, going .wide)) (λ h. omega (arith, begin-small, going .low p on)) (λ j d. going .low j) j q;
+            behind = behind-set m best₀ best p b on (going .behind);
+            passed = passed;
+          }
 
-  pub going-end : (slots₀ best₀ slots best : List ℕ) (p : ℕ) → Going e n m u slots₀ best₀ slots best p → m ≤ p →
-      (W : ℕ → ℕ → ℕ) → Fit e n m → StartsOf e n m W → ((k : ℕ) → k < m → values slots₀ k ≡ prior W u k) →
-      (k : ℕ) → k < m → AtNode e W u best₀ slots best k
+  pub going-end : (slots₀ best₀ slots best : List ℕ) (p : ℕ) → Going e m u slots₀ best₀ slots best p → m ≤ p →
+      (W : ℕ → ℕ → ℕ) → Fit e m → StartsOf e m W → Priors W m u slots₀ → (k : ℕ) → k < m → AtNode e W u best₀ slots best k
   going-end slots₀ best₀ slots best p going h W fit starts first k q = going .passed W fit starts first .found k (omega arith)

@@ -3,85 +3,83 @@ use mathlib.Core.Path.{_≡_, sym}
 use mathlib.Core.Bool.{Bool, true, false}
 use mathlib.Core.Logic.{inl, inr}
 use mathlib.Core.List.{List}
-use Prim.Native.Nat.{ℕ, zero, suc, _+_, _*_, _%_, _≤_, _<_}
+use Prim.Native.Nat.{ℕ, zero, suc, _+_, _-_, _≤_, _<_}
 use native.Mathlib.Omega.{arith}
 use native.Mathlib.Nat.{le-refl, le-trans, le-of-eq, mul-le-mul-right}
 use lib.Dec.{eqb}
 use borrow.Author.Tests.{eq-eqb}
 use Rattle.least.specs.Count.{pick}
+use Rattle.least.specs.Lists.{values}
 use Rattle.least.specs.Fixed.{Rising, Least, Under}
 use Rattle.least.specs.Starts.{Order}
 use Rattle.least.proofs.Count.{count-rises, pick-le}
 use Rattle.least.proofs.Fold.{sum-to-le}
 use Rattle.least.proofs.Fixed.{least-unique, least-ext, under-zero, under-ext}
 use Rattle.least.proofs.Starts.{starts-within}
-use Rattle.starts.specs.Sheet.{entrySize, blockSize, hereSlot, instantSlot, values, termOf, sheetSum, seen, sums, Back, Fit, StartsOf, prior}
+use Rattle.starts.specs.Sheet.{entriesIn, entryAt, hereSlot, instantSlot, termOf, sheetSum, seen, sums, Back, Fit, StartsOf, prior}
 
-pub term-le : (e : List ℕ) (v v′ : ℕ → ℕ) (k : ℕ) → v (values e k % 16) ≤ v′ (values e k % 16) → termOf e v k ≤ termOf e v′ k
+pub term-le : (e : List ℕ) (v v′ : ℕ → ℕ) (k : ℕ) → v (values e k) ≤ v′ (values e k) → termOf e v k ≤ termOf e v′ k
 unfolding termOf
 term-le e v v′ k h = mul-le-mul-right (values e (k + 4)) (count-rises (values e (k + 2)) (values e (k + 3)) (omega arith))
 
 -- a sum rises with what its counts look at
-pub sheet-le : (e : List ℕ) (p n : ℕ) (v v′ : ℕ → ℕ) →
-    ((j : ℕ) → j < n → v (values e (p * blockSize + 2 + j * entrySize) % 16) ≤ v′ (values e (p * blockSize + 2 + j * entrySize) % 16)) →
-    sheetSum e p n v ≤ sheetSum e p n v′
+pub sheet-le : (e : List ℕ) (p : ℕ) (v v′ : ℕ → ℕ) →
+    ((q : ℕ) → q < entriesIn e p → v (values e (entryAt e p q)) ≤ v′ (values e (entryAt e p q))) → sheetSum e p v ≤ sheetSum e p v′
 unfolding sheetSum
-sheet-le e p n v v′ h = omega (
+sheet-le e p v v′ h = omega (
   arith,
-  sum-to-le n (λ j. termOf e v (p * blockSize + 2 + j * entrySize)) (λ j. termOf e v′ (p * blockSize + 2 + j * entrySize))
-      (λ j q. term-le e v v′ (p * blockSize + 2 + j * entrySize) (h j q)),
+  sum-to-le (entriesIn e p) (λ q. termOf e v (entryAt e p q)) (λ q. termOf e v′ (entryAt e p q)) (λ q on. term-le e v v′ (entryAt e p q) (h q on)),
 )
 
-pub sheet-ext : (e : List ℕ) (p n : ℕ) (v v′ : ℕ → ℕ) → ((k : ℕ) → v k ≡ v′ k) → sheetSum e p n v ≡ sheetSum e p n v′
-sheet-ext e p n v v′ h = omega (
+pub sheet-ext : (e : List ℕ) (p : ℕ) (v v′ : ℕ → ℕ) → ((k : ℕ) → v k ≡ v′ k) → sheetSum e p v ≡ sheetSum e p v′
+sheet-ext e p v v′ h = omega (
   arith,
-  sheet-le e p n v v′ (λ j q. le-of-eq (h (values e (p * blockSize + 2 + j * entrySize) % 16))),
-  sheet-le e p n v′ v (λ j q. le-of-eq (sym (h (values e (p * blockSize + 2 + j * entrySize) % 16)))),
+  sheet-le e p v v′ (λ q on. le-of-eq (h (values e (entryAt e p q)))),
+  sheet-le e p v′ v (λ q on. le-of-eq (sym (h (values e (entryAt e p q))))),
 )
 
 -- with the instant, the starting times before p and the one sought
-module _ (e : List ℕ) (n m : ℕ) (fit : Fit e n m) where
-  pub sums-le : (u u′ p : ℕ) → p < m → u ≤ u′ → (x x′ : ℕ → ℕ) → ((l : ℕ) → l < p → x l ≤ x′ l) → (w w′ : ℕ) → w ≤ w′ → sums e n u p x w ≤ sums e n u′ p x′ w′
-  sums-le u u′ p hp hu x x′ hx w w′ hw =
-      sheet-le e p n (seen x w u) (seen x′ w′ u′) (λ j hj. at (values e (p * blockSize + 2 + j * entrySize) % 16) (fit .back p j hp hj))
+module _ (e : List ℕ) (m : ℕ) (fit : Fit e m) where
+  pub sums-le : (u u′ p : ℕ) → p < m → u ≤ u′ → (x x′ : ℕ → ℕ) → ((l : ℕ) → l < p → x l ≤ x′ l) → (w w′ : ℕ) → w ≤ w′ → sums e u p x w ≤ sums e u′ p x′ w′
+  sums-le u u′ p hp hu x x′ hx w w′ hw = sheet-le e p (seen x w u) (seen x′ w′ u′) (λ q hq. at (values e (entryAt e p q)) (fit p q hp hq))
     where
       at : (k : ℕ) → Back p k → seen x w u k ≤ seen x′ w′ u′ k
-      at k (inl h) = pick-le (eqb k hereSlot) hw (pick-le (eqb k instantSlot) hu (hx k h))
-      at k (inr (inl h)) = rw (eq-eqb k hereSlot h) hw
-      at k (inr (inr h)) = elsewhere (eqb k hereSlot) (rw (eq-eqb k instantSlot h) hu)
+      at k (inl h) = rw (eq-eqb k hereSlot h) hw
+      at k (inr (inl h)) = elsewhere (eqb k hereSlot) (rw (eq-eqb k instantSlot h) hu)
         where
-          elsewhere : (b : Bool) → pick (eqb k instantSlot) u (x k) ≤ pick (eqb k instantSlot) u′ (x′ k) →
-              pick b w (pick (eqb k instantSlot) u (x k)) ≤ pick b w′ (pick (eqb k instantSlot) u′ (x′ k))
+          elsewhere : (b : Bool) → pick (eqb k instantSlot) u (x (k - 2)) ≤ pick (eqb k instantSlot) u′ (x′ (k - 2)) →
+              pick b w (pick (eqb k instantSlot) u (x (k - 2))) ≤ pick b w′ (pick (eqb k instantSlot) u′ (x′ (k - 2)))
           elsewhere true q = hw
           elsewhere false q = q
+      at k (inr (inr (a, b))) = pick-le (eqb k hereSlot) hw (pick-le (eqb k instantSlot) hu (hx (k - 2) (omega arith)))
 
-  pub sums-same : (u p : ℕ) → p < m → (x x′ : ℕ → ℕ) → ((l : ℕ) → l < p → x l ≡ x′ l) → (w : ℕ) → sums e n u p x w ≡ sums e n u p x′ w
+  pub sums-same : (u p : ℕ) → p < m → (x x′ : ℕ → ℕ) → ((l : ℕ) → l < p → x l ≡ x′ l) → (w : ℕ) → sums e u p x w ≡ sums e u p x′ w
   sums-same u p hp x x′ h w = omega (
     arith,
     sums-le u u p hp (le-refl u) x x′ (λ l q. le-of-eq (h l q)) w w (le-refl w),
     sums-le u u p hp (le-refl u) x′ x (λ l q. le-of-eq (sym (h l q))) w w (le-refl w),
   )
 
-  pub sums-rising : (u p : ℕ) → p < m → (x : ℕ → ℕ) → Rising (sums e n u p x)
+  pub sums-rising : (u p : ℕ) → p < m → (x : ℕ → ℕ) → Rising (sums e u p x)
   sums-rising u p hp x a b h = sums-le u u p hp (le-refl u) x x (λ l q. le-refl (x l)) a b h
 
   -- the order of the nodes, by place
   abbrev places : Order ℕ
   places = record { On = λ p. p < m; Before = λ l p. (l < p) × (l < m); rank = λ p. p; on = λ l p b. b .1; less = λ l p b. b .0 }
 
-  module _ (W : ℕ → ℕ → ℕ) (starts : StartsOf e n m W) where
+  module _ (W : ℕ → ℕ → ℕ) (starts : StartsOf e m W) where
     -- starting times rise with the instant
     pub starts-rise : (u u′ p : ℕ) → p < m → u ≤ u′ → W u p ≤ W u′ p
     starts-rise u u′ p hp hu = omega (
       arith,
-      starts-within places 0 (sums e n u) (sums e n u′) (W u) (W u′)
+      starts-within places 0 (sums e u) (sums e u′) (W u) (W u′)
           (λ h o x x′ hx w w′ hw. omega (arith, sums-le u u′ h o hu x x′ (λ l q. omega (arith, hx l (q, omega arith))) w w′ (omega arith)))
           (starts u) (starts u′) p hp,
     )
 
     -- those of the instant before are a start from below
-    pub prior-under : (u p : ℕ) → p < m → Under (sums e n u p (W u)) (prior W u p)
-    prior-under zero p hp = under-zero (sums e n 0 p (W 0))
+    pub prior-under : (u p : ℕ) → p < m → Under (sums e u p (W u)) (prior W u p)
+    prior-under zero p hp = under-zero (sums e 0 p (W 0))
     prior-under (suc u) p hp = record {
       up = le-trans (le-of-eq (sym (starts u p hp .fixed)))
           (sums-le u (suc u) p hp (omega arith) (W u) (W (suc u)) (λ l q. starts-rise u (suc u) l (omega arith) (omega arith)) (W u p) (W u p) (le-refl _));
@@ -89,8 +87,8 @@ module _ (e : List ℕ) (n m : ℕ) (fit : Fit e n m) where
     }
 
     -- what is least over the starting times before p is the starting time at p
-    pub start-found : (u p w : ℕ) → p < m → (x : ℕ → ℕ) → ((l : ℕ) → l < p → x l ≡ W u l) → Least (sums e n u p x) w → w ≡ W u p
+    pub start-found : (u p w : ℕ) → p < m → (x : ℕ → ℕ) → ((l : ℕ) → l < p → x l ≡ W u l) → Least (sums e u p x) w → w ≡ W u p
     start-found u p w hp x h q = least-unique (least-ext (sums-same u p hp x (W u) h) q) (starts u p hp)
 
-    pub from-under : (u p : ℕ) → p < m → (x : ℕ → ℕ) → ((l : ℕ) → l < p → x l ≡ W u l) → Under (sums e n u p x) (prior W u p)
+    pub from-under : (u p : ℕ) → p < m → (x : ℕ → ℕ) → ((l : ℕ) → l < p → x l ≡ W u l) → Under (sums e u p x) (prior W u p)
     from-under u p hp x h = under-ext (λ y. sym (sums-same u p hp x (W u) h y)) (prior-under u p hp)

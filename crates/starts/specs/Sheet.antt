@@ -1,84 +1,86 @@
--- A sheet: for each node of a path a block of numbers, from which the sum at that node is worked out.
+-- A sheet: for each node of a path a block of numbers, from which the sum at that node is worked out. Its first number is the size of a block; a
+-- block has what hangs on nothing, what a response bound adds to W, how many entries there are, and the entries.
 use mathlib.Core.Path.{_≡_}
 use mathlib.Core.Logic.{_⊎_}
 use mathlib.Core.List.{List}
-use Prim.Native.Nat.{ℕ, zero, suc, _+_, _*_, _%_, _<_}
+use Prim.Native.Nat.{ℕ, zero, suc, _+_, _-_, _*_, _≤_, _<_}
 use lib.Dec.{eqb}
-use lib.ListN.{getD}
+use lib.ListN.{length}
 use Rattle.least.specs.Count.{pick, count}
 use Rattle.least.specs.Fold.{sumTo}
+use Rattle.least.specs.Lists.{values}
 use Rattle.least.specs.Fixed.{Least}
 use Rattle.least.specs.Starts.{Sums}
 
-abbrev pub mostFlows : ℕ
-mostFlows = 16
-
-abbrev pub mostNodes : ℕ
-mostNodes = 8
+abbrev pub headSize : ℕ
+headSize = 3
 
 abbrev pub entrySize : ℕ
 entrySize = 5
-
-abbrev pub blockSize : ℕ
-blockSize = 82
-
-abbrev pub sheetSize : ℕ
-sheetSize = 656
 
 -- the horizon H
 abbrev pub mostTime : ℕ
 mostTime = 65535
 
--- the slots of the starting time sought, and of the instant
+-- where a count may look: the starting time sought, the instant, the starting times at the nodes
 abbrev pub hereSlot : ℕ
-hereSlot = 8
+hereSlot = 0
 
 abbrev pub instantSlot : ℕ
-instantSlot = 9
+instantSlot = 1
 
-abbrev pub values : List ℕ → ℕ → ℕ
-values l k = getD l k 0
+abbrev pub nodeSlot : ℕ → ℕ
+nodeSlot p = p + 2
 
--- the entry at k: count(value + plus − minus, T) × weight
-unfoldable pub termOf : List ℕ → (ℕ → ℕ) → ℕ → ℕ
-termOf e v k =
-    count (v (values e k % 16) + values e (k + 1)) (values e (k + 2)) (values e (k + 3)) * values e (k + 4)
-
-unfoldable pub sheetSum : List ℕ → ℕ → ℕ → (ℕ → ℕ) → ℕ
-sheetSum e p n v = values e (p * blockSize) + sumTo n (λ j. termOf e v (p * blockSize + 2 + j * entrySize))
-
--- x at the nodes, w for the starting time sought, u for the instant
-abbrev pub seen : (ℕ → ℕ) → ℕ → ℕ → ℕ → ℕ
-seen x w u k = pick (eqb k hereSlot) w (pick (eqb k instantSlot) u (x k))
-
-abbrev pub sums : List ℕ → ℕ → ℕ → Sums ℕ
-sums e n u p x w = sheetSum e p n (seen x w u)
+abbrev pub blockAt : List ℕ → ℕ → ℕ
+blockAt e p = 1 + p * values e 0
 
 -- what a response bound adds to W − u
 abbrev pub added : List ℕ → ℕ → ℕ
-added e p = values e (p * blockSize + 1)
+added e p = values e (blockAt e p + 1)
+
+abbrev pub entriesIn : List ℕ → ℕ → ℕ
+entriesIn e p = values e (blockAt e p + 2)
+
+abbrev pub entryAt : List ℕ → ℕ → ℕ → ℕ
+entryAt e p q = blockAt e p + headSize + q * entrySize
+
+-- the entry at k: count(value + plus − minus, T) × weight
+unfoldable pub termOf : List ℕ → (ℕ → ℕ) → ℕ → ℕ
+termOf e v k = count (v (values e k) + values e (k + 1)) (values e (k + 2)) (values e (k + 3)) * values e (k + 4)
+
+unfoldable pub sheetSum : List ℕ → ℕ → (ℕ → ℕ) → ℕ
+sheetSum e p v = values e (blockAt e p) + sumTo (entriesIn e p) (λ q. termOf e v (entryAt e p q))
+
+-- w for the starting time sought, u for the instant, x at the nodes
+abbrev pub seen : (ℕ → ℕ) → ℕ → ℕ → ℕ → ℕ
+seen x w u k = pick (eqb k hereSlot) w (pick (eqb k instantSlot) u (x (k - 2)))
+
+abbrev pub sums : List ℕ → ℕ → Sums ℕ
+sums e u p x w = sheetSum e p (seen x w u)
 
 -- so small that no sum is cut
 abbrev pub Small : List ℕ → Type 0
 Small l = (k : ℕ) → values l k < 16777216
 
--- a sheet, and the values that its counts look at
-pub record Read (e v : List ℕ) : Type 0 where
-  pub sheet : Small e
-  pub slots : Small v
-
--- a count at node p looks at an earlier node, at p itself or at the instant
-abbrev pub Back : ℕ → ℕ → Type 0
-Back p k = (k < p) ⊎ (k ≡ hereSlot) ⊎ (k ≡ instantSlot)
-
--- a sheet of n flows for a path of m nodes
-pub record Fit (e : List ℕ) (n m : ℕ) : Type 0 where
+-- a sheet of m blocks: each stands in it whole, with so few entries that no sum is cut
+pub record Shaped (e : List ℕ) (m : ℕ) : Type 0 where
+  pub whole : (p : ℕ) → p < m → entryAt e p (entriesIn e p) ≤ length e
+  pub few : (p : ℕ) → p < m → entriesIn e p ≤ 1024
+  pub short : length e ≤ 16777216
   pub small : Small e
-  pub back : (p j : ℕ) → p < m → j < n → Back p (values e (p * blockSize + 2 + j * entrySize) % 16)
+
+-- a count at node p looks at p itself, at the instant or at an earlier node
+abbrev pub Back : ℕ → ℕ → Type 0
+Back p k = (k ≡ hereSlot) ⊎ (k ≡ instantSlot) ⊎ ((2 ≤ k) × (k < nodeSlot p))
+
+-- a sheet for a path of m nodes
+abbrev pub Fit : List ℕ → ℕ → Type 0
+Fit e m = (p q : ℕ) → p < m → q < entriesIn e p → Back p (values e (entryAt e p q))
 
 -- starting times at each instant and node
-abbrev pub StartsOf : List ℕ → ℕ → ℕ → (ℕ → ℕ → ℕ) → Type 0
-StartsOf e n m W = (u p : ℕ) → p < m → Least (sums e n u p (W u)) (W u p)
+abbrev pub StartsOf : List ℕ → ℕ → (ℕ → ℕ → ℕ) → Type 0
+StartsOf e m W = (u p : ℕ) → p < m → Least (sums e u p (W u)) (W u p)
 
 -- the starting times at the instant before; 0 before the first
 abbrev pub prior : (ℕ → ℕ → ℕ) → ℕ → ℕ → ℕ

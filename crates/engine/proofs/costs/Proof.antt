@@ -1,5 +1,5 @@
 -- `engine::costs` meets its contract.
-use Rattle.paths.proofs.Loops.{sum-place, sum-end}
+use Rattle.engine.proofs.Tally.{sum-more, sum-end}
 use Rattle.flows.specs.Lists.{pathOf}
 use Rattle.rules.specs.Formula.{least}
 use Rattle.least.specs.Fold.{sumOf}
@@ -9,10 +9,6 @@ use Prim.Native.Nat.{_+_, _*_, _-_, _≤_}
 use borrow.Author.Needs.{needs}
 use Rattle.engine.proofs.costs.Statement.{statement}
 use Rattle.engine.proofs.costs.Tie as tie
-use Rattle.engine.proofs.costs.Reads as reads
-use Rattle.engine.proofs.costs.Lts as lts
-use Rattle.flows.proofs.path_end.Reads as path-end-reads
-use Rattle.paths.proofs.cost_of.Reads as cost-of-reads
 
 abbrev Inv-loop : tie.InvT-loop
 Inv-loop f n sum₀ k₀ sum k = (k ≤ n) × (sum ≤ 65535 * k) × (sum + sumOf least (drop k (pathOf f)) ≡ sumOf least (pathOf f))
@@ -29,9 +25,6 @@ loop-holds c = search needs
 cost-of-requires : tie.Need-cost-of-requires Inv-loop μ-loop
 cost-of-requires c κs = search needs
 
-cast-sum : tie.Need-cast-sum Inv-loop μ-loop
-cast-sum c = search needs
-
 add-sum : tie.Need-add-sum Inv-loop μ-loop
 add-sum c = search needs
 
@@ -42,7 +35,7 @@ loop-less : tie.Need-loop-less Inv-loop μ-loop
 loop-less c = search needs
 
 loop-again : tie.Need-loop-again Inv-loop μ-loop
-loop-again c = (search needs, search needs, search sum-place)
+loop-again c = (search needs, search needs, search sum-more)
 
 returns : tie.Need-returns Inv-loop μ-loop
 returns c = (search sum-end, search needs)
@@ -56,7 +49,6 @@ costs-spec =
     path-end-requires
     loop-holds
     cost-of-requires
-    cast-sum
     add-sum
     add-k
     loop-less

@@ -4,11 +4,6 @@ use native.Mathlib.Omega.{arith}
 use borrow.Author.Needs.{needs}
 use Rattle.engine.proofs.figure.Statement.{statement}
 use Rattle.engine.proofs.figure.Tie as tie
-use Rattle.engine.proofs.figure.Reads as reads
-use Rattle.engine.proofs.figure.Lts as lts
-use Rattle.engine.proofs.costs.Reads as costs-reads
-use Rattle.flows.proofs.path_end.Reads as path-end-reads
-use Rattle.least.proofs.less.Reads as less-reads
 
 path-end-requires : tie.Need-path-end-requires
 path-end-requires c κs = search needs

@@ -1,18 +1,10 @@
 -- `engine::figures_of` meets its contract.
-use Rattle.engine.proofs.Tally.{tally-end}
-use Rattle.engine.proofs.Tally.{tally-none, tally-more}
+use Rattle.engine.proofs.Tally.{tally-none, tally-more, tally-end}
 use Rattle.engine.specs.Firsts.{FiguresUpTo}
 use Prim.Native.Nat.{_-_, _≤_}
 use borrow.Author.Needs.{needs}
 use Rattle.engine.proofs.figures_of.Statement.{statement}
 use Rattle.engine.proofs.figures_of.Tie as tie
-use Rattle.engine.proofs.figures_of.Reads as reads
-use Rattle.engine.proofs.figures_of.Lts as lts
-use Rattle.engine.proofs.figure.Reads as figure-reads
-use Rattle.engine.proofs.last_place.Reads as last-place-reads
-use Rattle.engine.proofs.no_figures.Reads as no-figures-reads
-use Rattle.row.proofs.size.Reads as size-reads
-use Rattle.sums.proofs.flow_at.Reads as flow-at-reads
 
 abbrev Inv-loop : tie.InvT-loop
 Inv-loop row lmin replies busies n figures₀ k₀ figures k = (k ≤ n) × FiguresUpTo row lmin replies busies k figures

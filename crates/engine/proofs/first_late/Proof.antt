@@ -1,18 +1,15 @@
 -- `engine::first_late` meets its contract.
-use Rattle.engine.proofs.Firsts.{Passed, passed-none, passed-more, first-here, first-none, late-at, timely-at}
+use Rattle.engine.proofs.Firsts.{clear-none, clear-more, first-here, first-none, late-at, timely-at}
 use Rattle.engine.specs.Firsts.{deadlineAt, boundAt}
+use Rattle.engine.specs.Findings.{Clear}
 use lib.Dec.{ltb}
 use Prim.Native.Nat.{_-_, _≤_}
 use borrow.Author.Needs.{needs}
 use Rattle.engine.proofs.first_late.Statement.{statement}
 use Rattle.engine.proofs.first_late.Tie as tie
-use Rattle.engine.proofs.first_late.Reads as reads
-use Rattle.engine.proofs.first_late.Lts as lts
-use Rattle.row.proofs.size.Reads as size-reads
-use Rattle.sums.proofs.flow_at.Reads as flow-at-reads
 
 abbrev Inv-loop : tie.InvT-loop
-Inv-loop row figures n k₀ k = (k ≤ n) × Passed (λ j. ltb (deadlineAt row j) (boundAt figures j)) k
+Inv-loop row figures n k₀ k = (k ≤ n) × Clear (λ j. ltb (deadlineAt row j) (boundAt figures j)) k
 
 abbrev μ-loop : tie.MeasureT-loop
 μ-loop row figures n k₀ k = n - k
@@ -21,7 +18,7 @@ size-requires : tie.Need-size-requires Inv-loop μ-loop
 size-requires c κs = search needs
 
 loop-holds : tie.Need-loop-holds Inv-loop μ-loop
-loop-holds c = (search needs, passed-none _)
+loop-holds c = (search needs, clear-none _)
 
 flow-at-requires : tie.Need-flow-at-requires Inv-loop μ-loop
 flow-at-requires c κs = search needs
@@ -42,7 +39,7 @@ loop-less : tie.Need-loop-less Inv-loop μ-loop
 loop-less c = search needs
 
 loop-again : tie.Need-loop-again Inv-loop μ-loop
-loop-again c = let a = c .before .before .before .before .before .before .before .before .args in let l = c .before .before .before .before .before .before .loop in let f = c .before .before .before .before .flow-at in (search needs, passed-more _ (l .k) (l .inv .1) (timely-at (a .row) (a .t2) (l .k) (f .result) (f .ensures) (c .if1 .left)))
+loop-again c = let a = c .before .before .before .before .before .before .before .before .args in let l = c .before .before .before .before .before .before .loop in let f = c .before .before .before .before .flow-at in (search needs, clear-more _ (l .k) (l .inv .1) (timely-at (a .row) (a .t2) (l .k) (f .result) (f .ensures) (c .if1 .left)))
 
 returns-2 : tie.Need-returns-2 Inv-loop μ-loop
 returns-2 c = let l = c .before .loop in first-none _ _ _ (l .inv .1) (search needs) (search needs)

@@ -1,56 +1,179 @@
 -- `engine::judge` meets its contract.
-use Rattle.engine.proofs.Judging.{judge-meant, crossing-judged, placed-judged}
-use Rattle.flows.specs.declared.Cause.the-variants.{Crossing}
-use Rattle.engine.specs.Verdicts.{refused, verdictOf}
-use Rattle.rules.specs.Valid.{Valid}
-use Rattle.flows.specs.Lists.{netOf}
-use mathlib.Core.Path.{_≡_, ap, _∙_}
+use mathlib.Core.Path.{ap, _∙_, subst}
+use mathlib.Core.Bool.{true, false}
+use native.Mathlib.Omega.{arith}
 use borrow.Author.Needs.{needs}
+use Rattle.flows.specs.declared.Cause.the-variants.{Crossing, NoBusyLength}
+use Rattle.nets.specs.Nets.{countIn}
+use Rattle.engine.specs.Verdicts.{refused}
+use Rattle.engine.specs.Findings.{crossed, Clear, FirstAt, Heavy, Outcome, FindingIs}
+use Rattle.engine.proofs.Firsts.{clear-low}
+use Rattle.engine.proofs.Findings.{room-enough}
+use Rattle.engine.proofs.Judging.{judge-meant, crossing-said, overload-said, unsettled-said, figures-said}
 use Rattle.engine.proofs.judge.Statement.{statement}
 use Rattle.engine.proofs.judge.Tie as tie
-use Rattle.engine.proofs.judge.Reads as reads
-use Rattle.engine.proofs.judge.Lts as lts
-use Rattle.engine.proofs.first_misplaced.Reads as first-misplaced-reads
-use Rattle.engine.proofs.judge_load.Reads as judge-load-reads
-use Rattle.engine.proofs.number_at.Reads as number-at-reads
-use Rattle.engine.proofs.refuse.Reads as refuse-reads
-use Rattle.row.proofs.size.Reads as size-reads
 
-first-misplaced-requires : tie.Need-first-misplaced-requires
-first-misplaced-requires c κs = search needs
+-- what was found, in each arm
+misplaced : (c : tie.After-found) →
+    let p = c .before .before .before .before .before .before .before .before .before .before .before .before .before .before .before .before .before .before .before .before .picture in
+    let f = c .before .before .before .before .before .before .before .before .before .before .find in
+    FirstAt (crossed (p .result)) (countIn (p .result)) (c .found .given .0 .0)
+misplaced c =
+    let f = c .before .before .before .before .before .before .before .before .before .before .find in
+    subst (FindingIs _ (f .last .1 .1 .1 .0) (f .last .1 .1 .1 .1 .0)) (c .found .given .1) (f .ensures .0)
 
-size-requires : tie.Need-size-requires
-size-requires c κs = search needs
+overloaded : (c : tie.After-found2) →
+    let p = c .before .before .before .before .before .before .before .before .before .before .before .before .before .before .before .before .before .before .before .before .picture in
+    let f = c .before .before .before .before .before .before .before .before .before .before .find in
+    Clear (crossed (p .result)) (countIn (p .result)) × Heavy (p .result) (f .last .1 .1 .1 .0) (c .found2 .given .0 .0)
+overloaded c =
+    let f = c .before .before .before .before .before .before .before .before .before .before .find in
+    subst (FindingIs _ (f .last .1 .1 .1 .0) (f .last .1 .1 .1 .1 .0)) (c .found2 .given .1) (f .ensures .0)
+
+past : (c : tie.After-enum-told) →
+    let p = c .before .before .before .before .before .before .before .before .before .before .before .before .before .before .before .before .before .before .before .before .picture in
+    let f = c .before .before .before .before .before .before .before .before .before .before .find in
+    Clear (crossed (p .result)) (countIn (p .result)) × Outcome (p .result) (f .last .1 .1 .1 .0) true (f .last .1 .1 .1 .1 .0)
+past c =
+    let f = c .before .before .before .before .before .before .before .before .before .before .find in
+    subst (FindingIs _ (f .last .1 .1 .1 .0) (f .last .1 .1 .1 .1 .0)) (c .enum-told .given .1) (f .ensures .0)
+
+settled : (c : tie.After-enum-told2) →
+    let p = c .before .before .before .before .before .before .before .before .before .before .before .before .before .before .before .before .before .before .before .before .picture in
+    let f = c .before .before .before .before .before .before .before .before .before .before .find in
+    Clear (crossed (p .result)) (countIn (p .result)) × Outcome (p .result) (f .last .1 .1 .1 .0) false (f .last .1 .1 .1 .1 .0)
+settled c =
+    let f = c .before .before .before .before .before .before .before .before .before .before .find in
+    subst (FindingIs _ (f .last .1 .1 .1 .0) (f .last .1 .1 .1 .1 .0)) (c .enum-told2 .given .1) (f .ensures .0)
+
+picture-requires : tie.Need-picture-requires
+picture-requires c κs = search needs
+
+slice-aggregate-find : tie.Need-slice-aggregate-find
+slice-aggregate-find c = search needs
+
+slice-aggregate-find-2 : tie.Need-slice-aggregate-find-2
+slice-aggregate-find-2 c = search needs
+
+slice-aggregate-find-3 : tie.Need-slice-aggregate-find-3
+slice-aggregate-find-3 c = search needs
+
+slice-aggregate-find-4 : tie.Need-slice-aggregate-find-4
+slice-aggregate-find-4 c = search needs
+
+slice-aggregate-find-5 : tie.Need-slice-aggregate-find-5
+slice-aggregate-find-5 c = search needs
+
+slice-aggregate-find-6 : tie.Need-slice-aggregate-find-6
+slice-aggregate-find-6 c = search needs
+
+slice-aggregate-find-7 : tie.Need-slice-aggregate-find-7
+slice-aggregate-find-7 c = search needs
+
+slice-aggregate-find-8 : tie.Need-slice-aggregate-find-8
+slice-aggregate-find-8 c = search needs
+
+slice-aggregate-find-9 : tie.Need-slice-aggregate-find-9
+slice-aggregate-find-9 c = search needs
+
+find-requires : tie.Need-find-requires
+find-requires c κs =
+    let p = c .before .before .before .before .before .before .before .before .before .picture in
+    room-enough (p .result) (p .ensures .1 .1) (p .ensures .1 .2)
+
+enum-known-found : tie.Need-enum-known-found
+enum-known-found c = search needs
 
 number-at-requires : tie.Need-number-at-requires
-number-at-requires c κs = search needs
+number-at-requires c κs =
+    let p = c .before .before .before .before .before .before .before .before .before .before .before .before .before .before .before .before .before .before .before .before .before .picture in
+    omega (arith, misplaced (c .before) .within, p .ensures .1 .0)
 
 refuse-requires : tie.Need-refuse-requires
 refuse-requires c κs = search needs
 
-returns : tie.Need-returns
-returns c = let s = c .before .before .before .before .before .args in let m = c .before .before .before .before .first-misplaced in
-    let e : Valid (netOf (s .lmin) (s .lmax) (s .row)) → c .refuse .result ≡ verdictOf (s .lmin) (s .lmax) (s .row) =
-    λ v. crossing-judged (s .lmin) (s .lmax) (s .row) v (m .result) (m .ensures (s .lmin) (s .lmax)) (search needs) (c .refuse .result) (c .refuse .ensures ∙ ap (λ k. refused (Crossing k)) (c .before .number-at .ensures)) in
-    (e, λ v. judge-meant (s .lmin) (s .lmax) (s .row) v _ (e v))
+enum-known-found-2 : tie.Need-enum-known-found-2
+enum-known-found-2 c = search needs
 
-judge-load-requires : tie.Need-judge-load-requires
-judge-load-requires c κs = search needs
+number-at-requires-2 : tie.Need-number-at-requires-2
+number-at-requires-2 c κs =
+    let p = c .before .before .before .before .before .before .before .before .before .before .before .before .before .before .before .before .before .before .before .before .before .picture in
+    omega (arith, overloaded (c .before) .1 .heavy .within, p .ensures .1 .0)
+
+refuse-requires-2 : tie.Need-refuse-requires-2
+refuse-requires-2 c κs = search needs
+
+enum-told : tie.Need-enum-told
+enum-told c = search needs
+
+refuse-requires-3 : tie.Need-refuse-requires-3
+refuse-requires-3 c κs = search needs
+
+enum-told-2 : tie.Need-enum-told-2
+enum-told-2 c = search needs
+
+figures-of-requires : tie.Need-figures-of-requires
+figures-of-requires c κs =
+    let p = c .before .before .before .before .before .before .before .before .before .before .before .before .before .before .before .before .before .before .before .before .picture in
+    let f = c .before .before .before .before .before .before .before .before .before .before .find in
+    (settled c .1 .settled .low, λ k h. clear-low (f .last .1 .1 .1 .0) (countIn (p .result)) (settled c .1 .light) k (omega (arith, p .ensures .1 .0)))
+
+judge-figures-requires : tie.Need-judge-figures-requires
+judge-figures-requires c κs = search needs
+
+returns : tie.Need-returns
+returns c =
+    let p = c .before .before .before .before .before .before .before .before .before .before .before .before .before .before .before .before .before .before .before .before .before .before .before .picture in
+    let n = c .before .number-at in
+    judge-meant _ _ _ _ (λ v. crossing-said _ _ _ v (p .result) (p .ensures .0) _ _ (misplaced (c .before .before .before)) (c .refuse .ensures ∙ ap (λ k. refused (Crossing k)) (n .ensures)))
 
 returns-2 : tie.Need-returns-2
-returns-2 c = let s = c .before .before .before .before .args in let m = c .before .before .before .first-misplaced in
-    let e : Valid (netOf (s .lmin) (s .lmax) (s .row)) → c .judge-load .result ≡ verdictOf (s .lmin) (s .lmax) (s .row) =
-    λ v. placed-judged (s .lmin) (s .lmax) (s .row) v (m .result) (m .ensures (s .lmin) (s .lmax)) (search needs) (c .judge-load .result) (c .judge-load .ensures v) in
-    (e, λ v. judge-meant (s .lmin) (s .lmax) (s .row) v _ (e v))
+returns-2 c =
+    let p = c .before .before .before .before .before .before .before .before .before .before .before .before .before .before .before .before .before .before .before .before .before .before .before .picture in
+    let n = c .before .number-at2 in
+    let o = overloaded (c .before .before .before) in
+    judge-meant _ _ _ _ (λ v. overload-said _ _ _ v (p .result) (p .ensures .0) _ (o .0) _ _ (o .1) (c .refuse2 .ensures ∙ ap (λ k. refused (NoBusyLength k)) (n .ensures)))
+
+returns-3 : tie.Need-returns-3
+returns-3 c =
+    let p = c .before .before .before .before .before .before .before .before .before .before .before .before .before .before .before .before .before .before .before .before .before .picture in
+    let o = past (c .before) in
+    judge-meant _ _ _ _ (λ v. unsettled-said _ _ _ v (p .result) (p .ensures .0) _ (o .0) _ _ (o .1) (c .refuse3 .ensures))
+
+returns-4 : tie.Need-returns-4
+returns-4 c =
+    let p = c .before .before .before .before .before .before .before .before .before .before .before .before .before .before .before .before .before .before .before .before .before .before .picture in
+    let t = c .before .figures-of in
+    let o = settled (c .before .before) in
+    judge-meant _ _ _ _ (λ v. figures-said _ _ _ v (p .result) (p .ensures .0) _ _ (o .1) (p .ensures .1 .1) (p .ensures .1 .2) (t .result) (t .ensures) (o .0) _ (c .judge-figures .ensures))
 
 pub judge-spec : {M : Type 1} → statement M
 judge-spec =
     tie.close
     (tie.spec
-    first-misplaced-requires
-    size-requires
+    picture-requires
+    slice-aggregate-find
+    slice-aggregate-find-2
+    slice-aggregate-find-3
+    slice-aggregate-find-4
+    slice-aggregate-find-5
+    slice-aggregate-find-6
+    slice-aggregate-find-7
+    slice-aggregate-find-8
+    slice-aggregate-find-9
+    find-requires
+    enum-known-found
     number-at-requires
     refuse-requires
+    enum-known-found-2
+    number-at-requires-2
+    refuse-requires-2
+    enum-told
+    refuse-requires-3
+    enum-told-2
+    figures-of-requires
+    judge-figures-requires
     returns
-    judge-load-requires
-    returns-2)
+    returns-2
+    returns-3
+    returns-4)

@@ -3,12 +3,6 @@ use Rattle.engine.proofs.Laws.{late-found, none-late}
 use borrow.Author.Needs.{needs}
 use Rattle.engine.proofs.judge_figures.Statement.{statement}
 use Rattle.engine.proofs.judge_figures.Tie as tie
-use Rattle.engine.proofs.judge_figures.Reads as reads
-use Rattle.engine.proofs.judge_figures.Lts as lts
-use Rattle.engine.proofs.first_late.Reads as first-late-reads
-use Rattle.engine.proofs.number_at.Reads as number-at-reads
-use Rattle.engine.proofs.refuse.Reads as refuse-reads
-use Rattle.row.proofs.size.Reads as size-reads
 
 first-late-requires : tie.Need-first-late-requires
 first-late-requires c κs = search needs

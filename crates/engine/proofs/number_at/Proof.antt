@@ -3,9 +3,6 @@ use mathlib.Core.Path.{ap}
 use borrow.Author.Needs.{needs}
 use Rattle.engine.proofs.number_at.Statement.{statement}
 use Rattle.engine.proofs.number_at.Tie as tie
-use Rattle.engine.proofs.number_at.Reads as reads
-use Rattle.engine.proofs.number_at.Lts as lts
-use Rattle.sums.proofs.flow_at.Reads as flow-at-reads
 
 flow-at-requires : tie.Need-flow-at-requires
 flow-at-requires c κs = search needs

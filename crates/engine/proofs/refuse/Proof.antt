@@ -3,9 +3,6 @@ use Rattle.engine.proofs.Laws.{refused-made}
 use borrow.Author.Needs.{needs}
 use Rattle.engine.proofs.refuse.Statement.{statement}
 use Rattle.engine.proofs.refuse.Tie as tie
-use Rattle.engine.proofs.refuse.Reads as reads
-use Rattle.engine.proofs.refuse.Lts as lts
-use Rattle.engine.proofs.no_figures.Reads as no-figures-reads
 
 no-figures-requires : tie.Need-no-figures-requires
 no-figures-requires c κs = search needs

@@ -1,79 +1,52 @@
 -- `settle::prefer` meets its contract.
-use Rattle.settle.proofs.Turns.{chosen-unmarked, chosen-next, chosen-still}
+use mathlib.Core.Path.{sym, _∙_}
 use borrow.Author.Needs.{needs}
+use Rattle.settle.proofs.Turns.{chosen-unmarked, chosen-still}
 use Rattle.settle.proofs.prefer.Statement.{statement}
 use Rattle.settle.proofs.prefer.Tie as tie
-use Rattle.settle.proofs.prefer.Reads as reads
-use Rattle.settle.proofs.prefer.Lts as lts
 
-mul-if1 : tie.Need-mul-if1
-mul-if1 c = search needs
-
-element-copy-out-if1 : tie.Need-element-copy-out-if1
-element-copy-out-if1 c = search needs
+at-requires : tie.Need-at-requires
+at-requires c κs = search needs
 
 returns : tie.Need-returns
-returns c = search chosen-unmarked
+returns c =
+    let s = c .before .before .before .before .args in
+    (chosen-unmarked (s .marks .now) (s .n) (s .b) (s .chosen) (search needs) (sym (c .before .at .ensures) ∙ c .if1 .taken), search needs)
 
 returns-2 : tie.Need-returns-2
-returns-2 c = search chosen-next
+returns-2 c = search needs
 
-mul-if3 : tie.Need-mul-if3
-mul-if3 c = search needs
+priority-requires : tie.Need-priority-requires
+priority-requires c κs = search needs
 
-element-copy-out-if3 : tie.Need-element-copy-out-if3
-element-copy-out-if3 c = search needs
-
-mul-if3-2 : tie.Need-mul-if3-2
-mul-if3-2 c = search needs
-
-element-copy-out-if3-2 : tie.Need-element-copy-out-if3-2
-element-copy-out-if3-2 c = search needs
+priority-requires-2 : tie.Need-priority-requires-2
+priority-requires-2 c κs = search needs
 
 returns-3 : tie.Need-returns-3
-returns-3 c = search chosen-next
-
-mul-if4 : tie.Need-mul-if4
-mul-if4 c = search needs
-
-element-copy-out-if4 : tie.Need-element-copy-out-if4
-element-copy-out-if4 c = search needs
-
-mul-if4-2 : tie.Need-mul-if4-2
-mul-if4-2 c = search needs
-
-element-copy-out-if4-2 : tie.Need-element-copy-out-if4-2
-element-copy-out-if4-2 c = search needs
+returns-3 c = search needs
 
 returns-4 : tie.Need-returns-4
-returns-4 c = search chosen-still
+returns-4 c = (search chosen-still, search needs)
 
 comes-next-requires : tie.Need-comes-next-requires
 comes-next-requires c κs = search needs
 
 returns-5 : tie.Need-returns-5
-returns-5 c = search chosen-next
+returns-5 c = search needs
 
 returns-6 : tie.Need-returns-6
-returns-6 c = search chosen-still
+returns-6 c = (search chosen-still, search needs)
 
 pub prefer-spec : {M : Type 1} → statement M
 prefer-spec =
     tie.close
     (tie.spec
-    mul-if1
-    element-copy-out-if1
+    at-requires
     returns
     returns-2
-    mul-if3
-    element-copy-out-if3
-    mul-if3-2
-    element-copy-out-if3-2
+    priority-requires
+    priority-requires-2
     returns-3
-    mul-if4
-    element-copy-out-if4
-    mul-if4-2
-    element-copy-out-if4-2
     returns-4
     comes-next-requires
     returns-5

@@ -1,73 +1,188 @@
 -- `settle::turn` meets its contract.
-use Rattle.settle.proofs.Work.{unmarked-fair, turn-past, turn-still, turn-raised, raised-fair}
-use borrow.Author.Needs.{needs}
+use mathlib.Core.Path.{_≡_, refl, sym, ap, _∙_, subst}
+use mathlib.Core.List.{List}
+use Prim.Native.Nat.{ℕ, _*_, _≤_}
+use native.Mathlib.Nat.{mul-le-mul}
 use native.Mathlib.Omega.{arith}
+use lib.ListN.{length, length-set}
+use borrow.Author.Needs.{needs}
+use Rattle.nets.specs.Nets.{countIn, roomIn}
+use Rattle.starts.specs.Sheet.{Shaped}
+use Rattle.settle.specs.Turns.{Room}
+use Rattle.settle.proofs.Turns.{sheet-fits, room-kept}
+use Rattle.settle.proofs.Work.{whole, unmarked-fair, Ran, turn-past, turn-still, still-fair, raised-fair, turn-raised}
 use Rattle.settle.proofs.turn.Statement.{statement}
 use Rattle.settle.proofs.turn.Tie as tie
-use Rattle.settle.proofs.turn.Reads as reads
-use Rattle.settle.proofs.turn.Lts as lts
-use Rattle.settle.proofs.mark.Reads as mark-reads
-use Rattle.settle.proofs.raise.Reads as raise-reads
-use Rattle.sheets.proofs.fill.Reads as fill-reads
-use Rattle.starts.proofs.responses.Reads as responses-reads
+
+ran : (c : tie.After-responses) →
+    let x = c .before .before .before .before .before .before .before .before .before .before .before .before .before .before .before .before .before .before .before .before .args in
+    let r = c .responses in
+    Ran (x .net .now) (x .busies .now) (x .replies .now) (x .marks .now) (x .a) (c .before .before .before .before .before .before .before .before .write .last .1 .1 .1 .1 .0) (c .before .before .before .before .before .hops .result) (r .result) (r .last .1 .1 .0)
+ran c =
+    let s = c .before .before .before .before .before .before .before .before .before .before .before .before .before .before .before .before .before .before .before .before in
+    record {
+      on = s .pre .0 .one;
+      inside = omega (arith, s .pre .0 .one, s .pre .3 .marks-long);
+      written = c .before .before .before .before .before .before .before .before .write .ensures .0;
+      long = c .before .before .before .before .before .hops .ensures .0;
+      run = c .responses .ensures .0;
+    }
+
+kept-room : (c : tie.After-responses) {replies′ marks′ : List ℕ} → length replies′ ≡ length (c .before .before .before .before .before .before .before .before .before .before .before .before .before .before .before .before .before .before .before .before .args .replies .now) → length marks′ ≡ length (c .before .before .before .before .before .before .before .before .before .before .before .before .before .before .before .before .before .before .before .before .args .marks .now) →
+    let x = c .before .before .before .before .before .before .before .before .before .before .before .before .before .before .before .before .before .before .before .before .args in
+    Room (x .net .now) (x .busies .now) replies′ marks′ (c .before .before .before .before .before .before .before .before .write .last .1 .1 .1 .1 .0) (c .responses .last .1 .0) (c .responses .last .1 .1 .0)
+kept-room c l k =
+    let w = c .before .before .before .before .before .before .before .before .write .ensures in
+    let r = c .responses .ensures in
+    room-kept (c .before .before .before .before .before .before .before .before .before .before .before .before .before .before .before .before .before .before .before .before .pre .3) l k (w .1 .1) (r .1 .1 .1) (r .1 .0 .long) (w .1 .0 .small) (r .1 .1 .0)
+
+first-low : (c : tie.After-room) → c .before .before .before .before .before .before .before .before .before .before .before .before .before .before .before .before .before .before .before .before .before .before .before .before .before .before .before .before .args .a * c .room .result ≤ 4000
+first-low c = omega (arith, mul-le-mul {n₁ = c .before .before .before .before .before .before .before .before .before .before .before .before .before .before .before .before .before .before .before .before .before .before .before .before .before .before .before .before .args .a} {m₁ = c .room .result} {n₂ = 63} {m₂ = 63} (omega (arith, c .before .before .before .before .before .before .before .before .before .before .before .before .before .before .before .before .before .before .before .before .before .before .before .before .before .before .before .before .pre .0 .one)) (c .room .ensures .1))
 
 mul-marks : tie.Need-mul-marks
 mul-marks c = search needs
 
-array-write-marks : tie.Need-array-write-marks
-array-write-marks c = search needs
+slice-write-marks : tie.Need-slice-write-marks
+slice-write-marks c = search needs
 
-mul-m : tie.Need-mul-m
-mul-m c = search needs
+write-requires : tie.Need-write-requires
+write-requires c κs =
+    let s = c .before .before .before .before .before .before .before .before .before .before .before in
+    (s .pre .0, s .pre .1, s .pre .4 .low, s .pre .3 .sheet-small, sheet-fits (s .pre .3) (s .args .a), s .pre .3 .sheet-short)
 
-element-copy-out-m : tie.Need-element-copy-out-m
-element-copy-out-m c = search needs
+hops-requires : tie.Need-hops-requires
+hops-requires c κs = search needs
 
-mul-fill : tie.Need-mul-fill
-mul-fill c = let s = c .before .before .before .before in record { fits = omega (arith, s .pre .3 (s .args .a)) }
+mul-end : tie.Need-mul-end
+mul-end c = search needs
 
-fill-requires : tie.Need-fill-requires
-fill-requires c κs = let s = c .before .before .before .before in (search needs, s .pre .2, s .pre .5 .low, omega (arith, s .pre .3 (s .args .a)))
-
-mul-responses : tie.Need-mul-responses
-mul-responses c = search needs
-
-element-copy-out-responses : tie.Need-element-copy-out-responses
-element-copy-out-responses c = search needs
+shared-slice-read-end : tie.Need-shared-slice-read-end
+shared-slice-read-end c = search needs
 
 responses-requires : tie.Need-responses-requires
-responses-requires c κs = let s = c .before .before .before .before .before .before .before in (s .pre .3 (s .args .a), s .pre .1, s .pre .4 (s .args .a) (s .pre .0), c .before .before .fill .ensures .1 .1)
+responses-requires c κs =
+    let s = c .before .before .before .before .before .before .before .before .before .before .before .before .before .before .before .before .before .before .before in
+    let w = c .before .before .before .before .before .before .before .write in
+    let h = c .before .before .before .before .hops in
+    (subst (Shaped (w .last .1 .1 .1 .1 .0)) (sym (h .ensures .0)) (w .ensures .1 .0), s .pre .2 (s .args .a) (s .pre .0 .one), s .pre .3 .slots-small, omega (arith, h .ensures .1 .0, s .pre .3 .slots-long), omega (arith, h .ensures .1 .0, s .pre .3 .best-long))
+
+same-length : tie.Need-same-length
+same-length c = search needs
+
+same-length-2 : tie.Need-same-length-2
+same-length-2 c = search needs
+
+same-length-3 : tie.Need-same-length-3
+same-length-3 c = search needs
+
+same-length-4 : tie.Need-same-length-4
+same-length-4 c = search needs
+
+same-length-5 : tie.Need-same-length-5
+same-length-5 c = search needs
 
 returns : tie.Need-returns
-returns c = let s = c .before .before .before .before .before .before .before .before .before in let x = s .args in let p = s .pre in let f = c .before .before .before .before .fill in let r = c .before .responses in (turn-past (x .nums .now) (x .from .now) (x .also .now) (x .lengths .now) (x .busies .now) (x .reads .now) (x .n) (x .state .replies) (x .state .marks) (x .a) (p .0) (p .1) (p .5) (f .result) (f .ensures .0) (f .ensures .1 .1) (r .result .past) (r .result .best) (r .ensures) (search needs), unmarked-fair (x .lengths .now) (x .n) (x .state .replies) (x .state .marks) (p .5) (x .a) (search needs))
+returns c =
+    let s = c .before .before .before .before .before .before .before .before .before .before .before .before .before .before .before .before .before .before .before .before .before .before .before .before .before in
+    let x = s .args in
+    (turn-past (ran (c .before .before .before .before .before)) (c .if1 .taken), (kept-room (c .before .before .before .before .before) refl (length-set (x .marks .now) (x .a) 0), unmarked-fair (x .net .now) (x .replies .now) (x .marks .now) (x .a) (ran (c .before .before .before .before .before) .inside) (s .pre .4)))
+
+room-requires : tie.Need-room-requires
+room-requires c κs = search needs
+
+mul-raise : tie.Need-mul-raise
+mul-raise c = record { fits = omega (arith, first-low c) }
 
 raise-requires : tie.Need-raise-requires
-raise-requires c κs = let s = c .before .before .before .before .before .before .before .before .before .before in (search needs, s .pre .3 (s .args .a), s .pre .5 .low, c .before .before .responses .ensures .within .low)
+raise-requires c κs =
+    let s = c .before .before .before .before .before .before .before .before .before .before .before .before .before .before .before .before .before .before .before .before .before .before .before .before .before .before .before .before in
+    let x = s .args in
+    let h = c .before .before .before .before .before .before .before .before .before .before .before .before .before .hops in
+    let r = c .before .before .before .before .before .before .before .before .responses in
+    (first-low c, h .ensures .1 .1, omega (arith, ap (λ k. x .a * k) (c .room .ensures .0), whole (roomIn (x .net .now)) (h .result) (x .a) (countIn (x .net .now)) (h .ensures .1 .0) (s .pre .0 .one), s .pre .3 .replies-long), omega (arith, h .ensures .1 .0, r .ensures .1 .0 .long, s .pre .3 .best-long), s .pre .4 .low, r .ensures .0 .low)
+
+same-length-6 : tie.Need-same-length-6
+same-length-6 c = search needs
+
+same-length-7 : tie.Need-same-length-7
+same-length-7 c = search needs
+
+same-length-8 : tie.Need-same-length-8
+same-length-8 c = search needs
+
+same-length-9 : tie.Need-same-length-9
+same-length-9 c = search needs
+
+same-length-10 : tie.Need-same-length-10
+same-length-10 c = search needs
 
 returns-2 : tie.Need-returns-2
-returns-2 c = let s = c .before .before .before .before .before .before .before .before .before .before .before .before .before in let x = s .args in let p = s .pre in let f = c .before .before .before .before .before .before .before .before .fill in let r = c .before .before .before .before .before .responses in let q = c .before .before .raise in (turn-still (x .nums .now) (x .from .now) (x .also .now) (x .lengths .now) (x .busies .now) (x .reads .now) (x .n) (x .state .replies) (x .state .marks) (x .a) (p .0) (p .1) (p .5) (f .result) (f .ensures .0) (f .ensures .1 .1) (r .result .past) (r .result .best) (r .ensures) (search needs) (q .result .replies) (q .result .rose) (q .ensures) (search needs), unmarked-fair (x .lengths .now) (x .n) (x .state .replies) (x .state .marks) (p .5) (x .a) (search needs))
+returns-2 c =
+    let s = c .before .before .before .before .before .before .before .before .before .before .before .before .before .before .before .before .before .before .before .before .before .before .before .before .before .before .before .before .before .before .before .before in
+    let x = s .args in
+    let q = c .before .before .before .raise in
+    let first = ap (λ k. x .a * k) (c .before .before .before .before .room .ensures .0) in
+    (turn-still (ran (c .before .before .before .before .before .before .before .before .before .before .before .before)) (c .before .before .before .before .before .before .before .if1 .left) first (q .ensures) (c .if2 .taken), (kept-room (c .before .before .before .before .before .before .before .before .before .before .before .before) (q .ensures .long) (length-set (x .marks .now) (x .a) 0), still-fair (ran (c .before .before .before .before .before .before .before .before .before .before .before .before)) (c .before .before .before .before .before .before .before .if1 .left) first (q .ensures) (c .if2 .taken) (s .pre .4)))
 
 mark-requires : tie.Need-mark-requires
-mark-requires c κs = let s = c .before .before .before .before .before .before .before .before .before .before .before .before .before .before in let x = s .args in (search needs, unmarked-fair (x .lengths .now) (x .n) (x .state .replies) (x .state .marks) (s .pre .5) (x .a) (search needs) .flags)
+mark-requires c κs =
+    let s = c .before .before .before .before .before .before .before .before .before .before .before .before .before .before .before .before .before .before .before .before .before .before .before .before .before .before .before .before .before .before .before .before .before in
+    (s .pre .0, omega (arith, s .pre .3 .marks-long, length-set (s .args .marks .now) (s .args .a) 0))
+
+same-length-11 : tie.Need-same-length-11
+same-length-11 c = search needs
+
+same-length-12 : tie.Need-same-length-12
+same-length-12 c = c .before .before .mark .ensures .long ∙ length-set (c .before .before .before .before .before .before .before .before .before .before .before .before .before .before .before .before .before .before .before .before .before .before .before .before .before .before .before .before .before .before .before .before .before .before .before .before .args .marks .now) (c .before .before .before .before .before .before .before .before .before .before .before .before .before .before .before .before .before .before .before .before .before .before .before .before .before .before .before .before .before .before .before .before .before .before .before .before .args .a) 0
+
+same-length-13 : tie.Need-same-length-13
+same-length-13 c = search needs
+
+same-length-14 : tie.Need-same-length-14
+same-length-14 c = search needs
+
+same-length-15 : tie.Need-same-length-15
+same-length-15 c = search needs
 
 returns-3 : tie.Need-returns-3
-returns-3 c = let s = c .before .before .before .before .before .before .before .before .before .before .before .before .before .before .before in let x = s .args in let p = s .pre in let f = c .before .before .before .before .before .before .before .before .before .before .fill in let r = c .before .before .before .before .before .before .before .responses in let q = c .before .before .before .before .raise in (turn-raised (x .nums .now) (x .from .now) (x .also .now) (x .lengths .now) (x .busies .now) (x .reads .now) (x .n) (x .state .replies) (x .state .marks) (x .a) (p .0) (p .1) (p .5) (f .result) (f .ensures .0) (f .ensures .1 .1) (r .result .past) (r .result .best) (r .ensures) (c .before .before .before .before .before .before .if1 .left) (q .result .replies) (q .result .rose) (q .ensures) (c .mark .result) (c .mark .ensures) (search needs), raised-fair (x .nums .now) (x .from .now) (x .also .now) (x .lengths .now) (x .busies .now) (x .reads .now) (x .n) (x .state .replies) (x .state .marks) (x .a) (p .0) (p .1) (p .5) (f .result) (f .ensures .0) (f .ensures .1 .1) (r .result .past) (r .result .best) (r .ensures) (c .before .before .before .before .before .before .if1 .left) (q .result .replies) (q .result .rose) (q .ensures) (c .mark .result) (c .mark .ensures) (p .3 (x .a)))
+returns-3 c =
+    let s = c .before .before .before .before .before .before .before .before .before .before .before .before .before .before .before .before .before .before .before .before .before .before .before .before .before .before .before .before .before .before .before .before .before .before .before .before in
+    let x = s .args in
+    let q = c .before .before .before .before .before .before .before .raise in
+    let k = c .before .before .mark in
+    let first = ap (λ k. x .a * k) (c .before .before .before .before .before .before .before .before .room .ensures .0) in
+    (turn-raised (ran (c .before .before .before .before .before .before .before .before .before .before .before .before .before .before .before .before)) (c .before .before .before .before .before .before .before .before .before .before .before .if1 .left) first (q .ensures) (k .ensures) (s .pre .4) (c .before .before .before .before .if2 .left), (kept-room (c .before .before .before .before .before .before .before .before .before .before .before .before .before .before .before .before) (q .ensures .long) (k .ensures .long ∙ length-set (x .marks .now) (x .a) 0), raised-fair (ran (c .before .before .before .before .before .before .before .before .before .before .before .before .before .before .before .before)) (c .before .before .before .before .before .before .before .before .before .before .before .if1 .left) first (q .ensures) (k .ensures) (s .pre .4)))
 
 pub turn-spec : {M : Type 1} → statement M
 turn-spec =
     tie.close
     (tie.spec
     mul-marks
-    array-write-marks
-    mul-m
-    element-copy-out-m
-    mul-fill
-    fill-requires
-    mul-responses
-    element-copy-out-responses
+    slice-write-marks
+    write-requires
+    hops-requires
+    mul-end
+    shared-slice-read-end
     responses-requires
+    same-length
+    same-length-2
+    same-length-3
+    same-length-4
+    same-length-5
     returns
+    room-requires
+    mul-raise
     raise-requires
+    same-length-6
+    same-length-7
+    same-length-8
+    same-length-9
+    same-length-10
     returns-2
     mark-requires
+    same-length-11
+    same-length-12
+    same-length-13
+    same-length-14
+    same-length-15
     returns-3)

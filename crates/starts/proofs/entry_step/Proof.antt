@@ -15,20 +15,22 @@ add-weight c = search needs
 mul-weight : tie.Need-mul-weight
 mul-weight c = search needs
 
-element-copy-out-weight : tie.Need-element-copy-out-weight
-element-copy-out-weight c = search needs
+shared-slice-read-weight : tie.Need-shared-slice-read-weight
+shared-slice-read-weight c = search needs
 
 returns : tie.Need-returns
-returns c = let a = c .before .before .args in entry-none (a .e .now) (a .k) (a .u) (a .end) (omega arith) (omega arith)
+returns c = let a = c .before .before .before .args in entry-none (a .e .now) (a .k) (a .u) (a .end) (omega arith) (omega arith)
 
 mul-look : tie.Need-mul-look
 mul-look c = search needs
 
-element-copy-out-look : tie.Need-element-copy-out-look
-element-copy-out-look c = search needs
+shared-slice-read-look : tie.Need-shared-slice-read-look
+shared-slice-read-look c = search needs
 
 returns-2 : tie.Need-returns-2
-returns-2 c = let a = c .before .before .before .before .args in entry-other (a .e .now) (a .k) (a .u) (a .end) (omega arith) (λ z. omega arith)
+returns-2 c =
+    let a = c .before .before .before .before .before .args in
+    entry-other (a .e .now) (a .k) (a .u) (a .end) (omega arith) (λ z. omega arith)
 
 add-plus : tie.Need-add-plus
 add-plus c = search needs
@@ -36,8 +38,8 @@ add-plus c = search needs
 mul-plus : tie.Need-mul-plus
 mul-plus c = search needs
 
-element-copy-out-plus : tie.Need-element-copy-out-plus
-element-copy-out-plus c = search needs
+shared-slice-read-plus : tie.Need-shared-slice-read-plus
+shared-slice-read-plus c = search needs
 
 add-less : tie.Need-add-less
 add-less c = search needs
@@ -45,8 +47,8 @@ add-less c = search needs
 mul-less : tie.Need-mul-less
 mul-less c = search needs
 
-element-copy-out-less : tie.Need-element-copy-out-less
-element-copy-out-less c = search needs
+shared-slice-read-less : tie.Need-shared-slice-read-less
+shared-slice-read-less c = search needs
 
 add-period : tie.Need-add-period
 add-period c = search needs
@@ -54,14 +56,18 @@ add-period c = search needs
 mul-period : tie.Need-mul-period
 mul-period c = search needs
 
-element-copy-out-period : tie.Need-element-copy-out-period
-element-copy-out-period c = search needs
+shared-slice-read-period : tie.Need-shared-slice-read-period
+shared-slice-read-period c = search needs
 
 step-after-requires : tie.Need-step-after-requires
-step-after-requires c κs = let s = c .before .before .before .before .before .before .before in (s .pre .1, s .pre .2, s .pre .3 (s .args .k + 1), s .pre .3 (s .args .k + 3))
+step-after-requires c κs =
+    let s = c .before .before .before .before .before .before .before .before in
+    (s .pre .2, s .pre .3, s .pre .4 (s .args .k + 1), s .pre .4 (s .args .k + 3))
 
 returns-3 : tie.Need-returns-3
-returns-3 c = let a = c .before .before .before .before .before .before .before .before .args in entry-looks (a .e .now) (a .k) (a .u) (a .end) (c .step-after .result) (omega arith) (omega arith) (c .step-after .ensures)
+returns-3 c =
+    let a = c .before .before .before .before .before .before .before .before .before .args in
+    entry-looks (a .e .now) (a .k) (a .u) (a .end) (c .step-after .result) (omega arith) (omega arith) (c .step-after .ensures)
 
 pub entry-step-spec : {M : Type 1} → statement M
 entry-step-spec =
@@ -69,19 +75,19 @@ entry-step-spec =
     (tie.spec
     add-weight
     mul-weight
-    element-copy-out-weight
+    shared-slice-read-weight
     returns
     mul-look
-    element-copy-out-look
+    shared-slice-read-look
     returns-2
     add-plus
     mul-plus
-    element-copy-out-plus
+    shared-slice-read-plus
     add-less
     mul-less
-    element-copy-out-less
+    shared-slice-read-less
     add-period
     mul-period
-    element-copy-out-period
+    shared-slice-read-period
     step-after-requires
     returns-3)

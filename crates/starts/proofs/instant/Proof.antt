@@ -1,6 +1,10 @@
 -- `starts::instant` meets its contract.
-use Rattle.starts.proofs.Nodes.{Going, going-start, first-set, going-past, begin-small, going-more, going-end}
-use Prim.Native.Nat.{_-_}
+use Rattle.starts.specs.Sheet.{nodeSlot}
+use Rattle.least.specs.Lists.{values}
+use lib.ListN.{length-set}
+use mathlib.Core.Path.{ap, _∙_}
+use Rattle.starts.proofs.Nodes.{Going, going-start, first-set, going-past, begin-small, going-more, going-end, shaped-less}
+use Prim.Native.Nat.{_+_, _-_}
 use borrow.Author.Needs.{needs}
 use native.Mathlib.Omega.{arith}
 use Rattle.starts.proofs.instant.Statement.{statement}
@@ -9,28 +13,37 @@ use Rattle.starts.proofs.instant.Reads as reads
 use Rattle.starts.proofs.instant.Lts as lts
 use Rattle.least.proofs.greater.Reads as greater-reads
 use Rattle.least.proofs.less.Reads as less-reads
+use Rattle.starts.proofs.block_at.Reads as block-at-reads
 use Rattle.starts.proofs.start_at.Reads as start-at-reads
 
 abbrev Inv-loop : tie.InvT-loop
-Inv-loop e n m u slots₀ best₀ p₀ slots best p = Going e n m u slots₀ best₀ slots best p
+Inv-loop e slots₀ best₀ m u p₀ slots best p = Going e m u slots₀ best₀ slots best p
 
 abbrev μ-loop : tie.MeasureT-loop
-μ-loop e n m u slots₀ best₀ p₀ slots best p = m - p
+μ-loop e slots₀ best₀ m u p₀ slots best p = m - p
 
-array-write-slots : tie.Need-array-write-slots Inv-loop μ-loop
-array-write-slots c = search needs
+slice-write-slots : tie.Need-slice-write-slots Inv-loop μ-loop
+slice-write-slots c = search needs
 
 loop-holds : tie.Need-loop-holds Inv-loop μ-loop
-loop-holds c = let a = c .before .before .args in let p = c .before .before .pre in going-start (a .e .now) (a .n) (a .m) (a .u) (search needs) (a .run .slots) (a .run .best) (search needs) (search needs) (p .3 .slots) (p .4)
+loop-holds c =
+    let a = c .before .before .before in
+    going-start (a .args .e .now) (a .args .m) (a .args .u) (a .args .slots .now) (a .args .best .now) (a .pre .3) (a .pre .4) (a .pre .1) (a .pre .2) (a .pre .5)
+
+add-from : tie.Need-add-from Inv-loop μ-loop
+add-from c = search needs
 
 mul-from : tie.Need-mul-from Inv-loop μ-loop
 mul-from c = search needs
 
-array-read-from : tie.Need-array-read-from Inv-loop μ-loop
-array-read-from c = search needs
+slice-read-from : tie.Need-slice-read-from Inv-loop μ-loop
+slice-read-from c = search needs
 
 start-at-requires : tie.Need-start-at-requires Inv-loop μ-loop
-start-at-requires c κs = let p = c .before .before .before .before .pre in let l = c .before .loop in (omega (arith, l .inv .few), p .1, record { sheet = p .3 .sheet; slots = l .inv .small }, omega (arith, l .inv .time), l .inv .small (l .p))
+start-at-requires c κs =
+    let a = c .before .before .before .before .before .before .before in
+    let l = c .before .before .before .loop in
+    (shaped-less (omega arith) (a .pre .0), l .inv .small, omega (arith, l .inv .room), omega (arith, l .inv .time, a .pre .1), l .inv .small (nodeSlot (l .p)))
 
 enum-known-w : tie.Need-enum-known-w Inv-loop μ-loop
 enum-known-w c = search needs
@@ -38,29 +51,53 @@ enum-known-w c = search needs
 enum-told : tie.Need-enum-told Inv-loop μ-loop
 enum-told c = search needs
 
+same-length : tie.Need-same-length Inv-loop μ-loop
+same-length c =
+    let a = c .before .before .before .before .before .before .before .before .before .before .before .before in
+    let l = c .before .before .before .before .before .before .before .before .loop in
+    let s = c .before .before .before .before .start-at in
+    s .ensures .1 .1 .long ∙ l .inv .long ∙ length-set (a .args .slots .now) 1 (a .args .u)
+
+same-length-2 : tie.Need-same-length-2 Inv-loop μ-loop
+same-length-2 c = search needs
+
 returns : tie.Need-returns Inv-loop μ-loop
-returns c = let a = c .before .before .before .before .before .before .before .args in let l = c .before .before .before .before .loop in let s = c .before .before .start-at in (λ W f t g. going-past (a .e .now) (a .n) (a .m) (a .u) (search needs) _ _ (l .slots) (l .best) (l .p) (l .inv) (search needs) (s .result) (s .ensures .0) (s .ensures .1) (c .enum-told .given .1) W f t (first-set (a .e .now) (a .n) (a .m) (a .u) (search needs) (a .run .slots) W g), (l .inv .small, l .inv .within))
+returns c =
+    let a = c .before .before .before .before .before .before .before .before .before .before .before .before in
+    let l = c .before .before .before .before .before .before .before .before .loop in
+    let s = c .before .before .before .before .start-at in
+    (λ W f t g. going-past (a .args .e .now) (a .args .m) (a .args .u) _ _ (l .slots) (l .best) (l .p) (l .inv) (omega arith) (s .result) (s .ensures .0) (c .enum-told .given .1) W f t (first-set (a .args .e .now) (a .args .m) (a .args .u) (a .args .slots .now) W g), ((s .ensures .1 .1 .small, s .ensures .1 .1 .long ∙ l .inv .long ∙ length-set (a .args .slots .now) 1 (a .args .u)), (l .inv .low, l .inv .behind)))
+
+add-slots : tie.Need-add-slots Inv-loop μ-loop
+add-slots c = search needs
 
 mul-slots : tie.Need-mul-slots Inv-loop μ-loop
 mul-slots c = search needs
 
-array-write-slots-2 : tie.Need-array-write-slots-2 Inv-loop μ-loop
-array-write-slots-2 c = search needs
+slice-write-slots-2 : tie.Need-slice-write-slots-2 Inv-loop μ-loop
+slice-write-slots-2 c = search needs
 
-mul-add : tie.Need-mul-add Inv-loop μ-loop
-mul-add c = search needs
+block-at-requires : tie.Need-block-at-requires Inv-loop μ-loop
+block-at-requires c κs =
+    let a = c .before .before .before .before .before .before .before .before .before .before .before .before .before in
+    let l = c .before .before .before .before .before .before .before .before .before .loop in
+    shaped-less (omega arith) (a .pre .0)
 
 add-add : tie.Need-add-add Inv-loop μ-loop
 add-add c = search needs
 
-mul-add-2 : tie.Need-mul-add-2 Inv-loop μ-loop
-mul-add-2 c = search needs
+mul-add : tie.Need-mul-add Inv-loop μ-loop
+mul-add c = search needs
 
-element-copy-out-add : tie.Need-element-copy-out-add Inv-loop μ-loop
-element-copy-out-add c = search needs
+shared-slice-read-add : tie.Need-shared-slice-read-add Inv-loop μ-loop
+shared-slice-read-add c = search needs
 
 add-less : tie.Need-add-less Inv-loop μ-loop
-add-less c = let a = c .before .before .before .before .before .before .before .before .before .args in let l = c .before .before .before .before .before .before .loop in let s = c .before .before .before .before .start-at in omega (arith, begin-small (a .e .now) (a .n) (a .m) (a .u) (search needs) _ _ (l .slots) (l .best) (l .p) (l .inv) (search needs) (s .result) (s .ensures .0) (s .ensures .1) _ (c .before .before .w .given .1))
+add-less c =
+    let a = c .before .before .before .before .before .before .before .before .before .before .before .before .before .before .before in
+    let l = c .before .before .before .before .before .before .before .before .before .before .before .loop in
+    let s = c .before .before .before .before .before .before .before .start-at in
+    omega (arith, a .pre .1, a .pre .0 .small (c .before .block-at .result + 1), begin-small (a .args .e .now) (a .args .m) (a .args .u) _ _ (l .slots) (l .best) (l .p) (l .inv) (omega arith) (s .result) (s .ensures .0) (s .ensures .1 .0) _ (c .before .before .before .w .given .1))
 
 less-requires : tie.Need-less-requires Inv-loop μ-loop
 less-requires c κs = search needs
@@ -68,8 +105,8 @@ less-requires c κs = search needs
 mul-so-far : tie.Need-mul-so-far Inv-loop μ-loop
 mul-so-far c = search needs
 
-array-read-so-far : tie.Need-array-read-so-far Inv-loop μ-loop
-array-read-so-far c = search needs
+slice-read-so-far : tie.Need-slice-read-so-far Inv-loop μ-loop
+slice-read-so-far c = search needs
 
 greater-requires : tie.Need-greater-requires Inv-loop μ-loop
 greater-requires c κs = search needs
@@ -77,8 +114,8 @@ greater-requires c κs = search needs
 mul-best : tie.Need-mul-best Inv-loop μ-loop
 mul-best c = search needs
 
-array-write-best : tie.Need-array-write-best Inv-loop μ-loop
-array-write-best c = search needs
+slice-write-best : tie.Need-slice-write-best Inv-loop μ-loop
+slice-write-best c = search needs
 
 add-p : tie.Need-add-p Inv-loop μ-loop
 add-p c = search needs
@@ -87,10 +124,27 @@ loop-less : tie.Need-loop-less Inv-loop μ-loop
 loop-less c = search needs
 
 loop-again : tie.Need-loop-again Inv-loop μ-loop
-loop-again c = let a = c .before .before .before .before .before .before .before .before .before .before .before .args in let l = c .before .before .before .before .before .before .before .before .loop in let s = c .before .before .before .before .before .before .start-at in going-more (a .e .now) (a .n) (a .m) (a .u) (search needs) _ _ (l .slots) (l .best) (l .p) (l .inv) (search needs) (s .result) (s .ensures .0) (s .ensures .1) _ _ (c .before .before .before .before .w .given .1) (omega arith) (search needs)
+loop-again c =
+    let a = c .before .before .before .before .before .before .before .before .before .before .before .before .before .before .before .before .before .before in
+    let l = c .before .before .before .before .before .before .before .before .before .before .before .before .before .before .loop in
+    let s = c .before .before .before .before .before .before .before .before .before .before .start-at in
+    let add = ap (λ x. values (a .args .e .now) (x + 1)) (c .before .before .before .before .block-at .ensures .0) in
+    going-more (a .args .e .now) (a .args .m) (a .args .u) _ _ (l .slots) (l .best) (l .p) (l .inv) (omega arith) (s .result) (s .ensures .0) (s .ensures .1 .0) _ (c .before .before .before .before .before .before .w .given .1) (s .last .1 .0) (s .ensures .1 .1) (c .greater .result) (omega arith) (a .pre .1)
+
+same-length-3 : tie.Need-same-length-3 Inv-loop μ-loop
+same-length-3 c =
+    let a = c .before .before .before .before .before in
+    let l = c .before .loop in
+    l .inv .long ∙ length-set (a .args .slots .now) 1 (a .args .u)
+
+same-length-4 : tie.Need-same-length-4 Inv-loop μ-loop
+same-length-4 c = search needs
 
 returns-2 : tie.Need-returns-2 Inv-loop μ-loop
-returns-2 c = let a = c .before .before .before .before .args in let l = c .before .loop in (λ W f s g. going-end (a .e .now) (a .n) (a .m) (a .u) (search needs) _ _ (l .slots) (l .best) (l .p) (l .inv) (search needs) W f s (first-set (a .e .now) (a .n) (a .m) (a .u) (search needs) (a .run .slots) W g), (l .inv .small, l .inv .within))
+returns-2 c =
+    let a = c .before .before .before .before .before in
+    let l = c .before .loop in
+    (λ W f s g. going-end (a .args .e .now) (a .args .m) (a .args .u) _ _ (l .slots) (l .best) (l .p) (l .inv) (omega arith) W f s (first-set (a .args .e .now) (a .args .m) (a .args .u) (a .args .slots .now) W g), ((l .inv .small, l .inv .long ∙ length-set (a .args .slots .now) 1 (a .args .u)), (l .inv .low, l .inv .behind)))
 
 pub instant-spec : {M : Type 1} → statement M
 instant-spec =
@@ -98,28 +152,34 @@ instant-spec =
     (tie.spec
     Inv-loop
     μ-loop
-    array-write-slots
+    slice-write-slots
     loop-holds
+    add-from
     mul-from
-    array-read-from
+    slice-read-from
     start-at-requires
     enum-known-w
     enum-told
+    same-length
+    same-length-2
     returns
+    add-slots
     mul-slots
-    array-write-slots-2
-    mul-add
+    slice-write-slots-2
+    block-at-requires
     add-add
-    mul-add-2
-    element-copy-out-add
+    mul-add
+    shared-slice-read-add
     add-less
     less-requires
     mul-so-far
-    array-read-so-far
+    slice-read-so-far
     greater-requires
     mul-best
-    array-write-best
+    slice-write-best
     add-p
     loop-less
     loop-again
+    same-length-3
+    same-length-4
     returns-2)

@@ -1,3 +1,0 @@
--- The laws of `busy`.
-pub mod Whole
-pub mod Climb

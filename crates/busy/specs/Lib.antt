@@ -1,2 +1,0 @@
--- The definitions of `busy`.
-pub mod Load

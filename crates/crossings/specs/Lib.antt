@@ -1,0 +1,2 @@
+-- The definitions of `crossings`.
+pub mod Pairs

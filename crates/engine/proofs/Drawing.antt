@@ -1,0 +1,242 @@
+-- The flow at a place of a row, a flow as numbers, and a row as the numbers of its network. Assumes nothing.
+use mathlib.Core.Path.{_≡_, refl, sym, ap, _∙_, subst}
+use mathlib.Core.List.{List, [], _∷_, map}
+use Prim.Native.Nat.{ℕ, zero, suc, _+_, _*_, _≤_, _<_}
+use native.Mathlib.Omega.{arith}
+use lib.ListN.{length, getD, set, replicate, length-take, length-map, length-set, length-replicate}
+use lib.Seq.{getD-set-same, getD-set-other, ext-getD}
+use borrow.Author.Count.{below-more}
+use Rattle.least.specs.Lists.{values}
+use Rattle.flows.specs.declared.Flow.{Flow}
+use Rattle.flows.specs.declared.Row.{Row}
+use Rattle.flows.specs.Lists.{mostFlows, mostNodes, noFlow, hopsOf, pathOf, flowOf, held, netOf}
+use Rattle.flows.proofs.Arrays.{length-hops, path-at}
+use Rattle.row.proofs.Arrays.{getD-any, held-at}
+use Rattle.nets.specs.Nets as nets
+use Rattle.nets.specs.Nets.{countIn, roomIn, fieldIn, lengthIn, pathIn, flowIn, flowsIn, netIn}
+use Rattle.nets.proofs.Reading as reading
+use Rattle.engine.specs.Firsts.{placed}
+use Rattle.engine.specs.Drawing.{DrawnAt}
+use Rattle.engine.proofs.Firsts.{at-place}
+
+-- the flow at a place of the row
+module _ (row : Row) (len : length (row .flows) ≡ mostFlows) (k : ℕ) (h : k < length (held row)) where
+  pub place-held : k < mostFlows
+  unfolding held
+  place-held = omega (arith, length-take (row .count) (row .flows))
+
+  pub flow-held : (d : Flow) → getD (row .flows) k d ≡ getD (held row) k noFlow
+  flow-held d = sym (held-at row len k d h) ∙ getD-any (held row) k d noFlow h
+
+-- a store keeps what is before it
+keeps : (l : List ℕ) (i k x : ℕ) → k < i → values (set l i x) k ≡ values l k
+keeps l i k x h = getD-set-other l i k x 0 (λ e. omega arith)
+
+-- numbers stored one behind the other, from at + k on
+abbrev stored : List ℕ → ℕ → ℕ → List ℕ → List ℕ
+stored [] at k l = l
+stored (x ∷ xs) at k l = stored xs at (suc k) (set l (at + k) x)
+
+stored-long : (xs : List ℕ) (at k : ℕ) (l : List ℕ) → length (stored xs at k l) ≡ length l
+stored-long [] at k l = refl
+stored-long (x ∷ xs) at k l = stored-long xs at (suc k) (set l (at + k) x) ∙ length-set l (at + k) x
+
+stored-before : (xs : List ℕ) (at k : ℕ) (l : List ℕ) (j : ℕ) → j < at + k → values (stored xs at k l) j ≡ values l j
+stored-before [] at k l j h = refl
+stored-before (x ∷ xs) at k l j h = stored-before xs at (suc k) (set l (at + k) x) j (omega arith) ∙ keeps l (at + k) j x h
+
+stored-at : (xs : List ℕ) (at k : ℕ) (l : List ℕ) (j p : ℕ) → p ≡ at + (k + j) → j < length xs → at + (k + length xs) ≤ length l → values (stored xs at k l) p ≡ values xs j
+stored-at [] at k l j p e h fit = absurd (omega arith)
+stored-at (x ∷ xs) at k l zero p e h fit =
+    let s : p ≡ at + k = omega arith in
+    stored-before xs at (suc k) (set l (at + k) x) p (omega arith) ∙ ap (values (set l (at + k) x)) s ∙ getD-set-same l (at + k) x 0 (omega arith)
+stored-at (x ∷ xs) at k l (suc j) p e h fit =
+    stored-at xs at (suc k) (set l (at + k) x) j p (omega arith) (omega arith) (omega (arith, length-set l (at + k) x))
+
+-- nodes and costs of the places below k, behind the fields of the flow, which are kept
+pub record PathTo (f : Flow) (at : ℕ) (net net′ : List ℕ) (k : ℕ) : Type 0 where
+  pub kept : (j : ℕ) → j < at + 6 → values net′ j ≡ values net j
+  pub node : (j : ℕ) → j < k → values net′ (at + (6 + 2 * j)) ≡ getD (f .nodes) j 0
+  pub cost : (j : ℕ) → j < k → values net′ (at + (7 + 2 * j)) ≡ getD (f .costs) j 0
+  pub long : length net′ ≡ length net
+
+module _ (f : Flow) (at : ℕ) (net : List ℕ) where
+  pub path-none : PathTo f at net net 0
+  path-none = record { kept = λ j h. refl; node = λ j h. absurd (omega arith); cost = λ j h. absurd (omega arith); long = refl }
+
+  pub path-more : (net′ : List ℕ) (k p q : ℕ) → PathTo f at net net′ k → p ≡ at + (6 + 2 * k) → q ≡ at + (7 + 2 * k) → q < length net′ →
+      PathTo f at net (set (set net′ p (getD (f .nodes) k 0)) q (getD (f .costs) k 0)) (k + 1)
+  path-more net′ k p q i a b fit = record {
+    kept = λ j h. under j (omega arith) ∙ i .kept j h;
+    node = below-more (λ j. values both (at + (6 + 2 * j)) ≡ getD (f .nodes) j 0) k
+        (λ j h. under (at + (6 + 2 * j)) (omega arith) ∙ i .node j h)
+        (ap (values both) (sym a) ∙ keeps mid q p y (omega arith) ∙ getD-set-same net′ p x 0 (omega arith));
+    cost = below-more (λ j. values both (at + (7 + 2 * j)) ≡ getD (f .costs) j 0) k
+        (λ j h. under (at + (7 + 2 * j)) (omega arith) ∙ i .cost j h)
+        (ap (values both) (sym b) ∙ getD-set-same mid q y 0 (omega (arith, length-set net′ p x)));
+    long = length-set mid q y ∙ length-set net′ p x ∙ i .long;
+  }
+    where
+      x : ℕ
+      x = getD (f .nodes) k 0
+
+      y : ℕ
+      y = getD (f .costs) k 0
+
+      mid : List ℕ
+      mid = set net′ p x
+
+      both : List ℕ
+      both = set mid q y
+
+      under : (j : ℕ) → j < p → values both j ≡ values net′ j
+      under j h = keeps mid q j y (omega arith) ∙ keeps net′ p j x h
+
+-- six fields, then the path
+pub draw-end : (f : Flow) (at : ℕ) (net net′ : List ℕ) (k : ℕ) → at + 22 ≤ length net → mostNodes ≤ k →
+    PathTo f at (stored (f .priority ∷ f .period ∷ f .jitter ∷ f .deadline ∷ f .length ∷ []) at 1 (set net at (f .number))) net′ k → DrawnAt f at net net′
+draw-end f at net net′ k fit all i = record {
+  number = i .kept at (omega arith) ∙ stored-before rest at 1 first at (omega arith) ∙ getD-set-same net at (f .number) 0 (omega arith);
+  priority = field 0 (omega arith);
+  period = field 1 (omega arith);
+  jitter = field 2 (omega arith);
+  deadline = field 3 (omega arith);
+  path = field 4 (omega arith);
+  node = λ j h. i .node j (omega arith);
+  cost = λ j h. i .cost j (omega arith);
+  before = λ j h. i .kept j (omega arith) ∙ stored-before rest at 1 first j (omega arith) ∙ keeps net at j (f .number) h;
+  long = i .long ∙ stored-long rest at 1 first ∙ length-set net at (f .number);
+}
+  where
+    rest : List ℕ
+    rest = f .priority ∷ f .period ∷ f .jitter ∷ f .deadline ∷ f .length ∷ []
+
+    first : List ℕ
+    first = set net at (f .number)
+
+    field : (j : ℕ) → j < 5 → values net′ (at + (1 + j)) ≡ values rest j
+    field j h =
+        i .kept (at + (1 + j)) (omega arith) ∙ stored-at rest at 1 first j (at + (1 + j)) refl h (omega (arith, length-set net at (f .number)))
+
+-- a flow as it stands at a place
+pub record Stands (f : Flow) (at : ℕ) (net : List ℕ) : Type 0 where
+  pub drawn : DrawnAt f at net net
+  pub nodes : length (f .nodes) ≡ mostNodes
+  pub costs : length (f .costs) ≡ mostNodes
+
+-- what is as it was up to its end has the flow
+still-drawn : (f : Flow) (at : ℕ) (old net net′ : List ℕ) → DrawnAt f at old net → ((k : ℕ) → k < at + 22 → values net′ k ≡ values net k) → DrawnAt f at net′ net′
+still-drawn f at old net net′ d same = record {
+  number = same at (omega arith) ∙ d .number;
+  priority = same (at + 1) (omega arith) ∙ d .priority;
+  period = same (at + 2) (omega arith) ∙ d .period;
+  jitter = same (at + 3) (omega arith) ∙ d .jitter;
+  deadline = same (at + 4) (omega arith) ∙ d .deadline;
+  path = same (at + 5) (omega arith) ∙ d .path;
+  node = λ k h. same (at + (6 + 2 * k)) (omega arith) ∙ d .node k h;
+  cost = λ k h. same (at + (7 + 2 * k)) (omega arith) ∙ d .cost k h;
+  before = λ k h. refl;
+  long = refl;
+}
+
+-- it is read back
+module _ (f : Flow) (net : List ℕ) (a : ℕ) (room : roomIn net ≡ mostNodes) (s : Stands f (4 + a * 22) net) where
+  field : (k : ℕ) → fieldIn net a k ≡ values net (4 + a * 22 + k)
+  unfolding fieldIn
+  field k = ap (λ r. values net (4 + a * (6 + 2 * r) + k)) room
+
+  path-read : pathIn net a ≡ pathOf f
+  path-read = ext-getD nets.noHop (pathIn net a) (pathOf f) long each
+    where
+      end : lengthIn net a ≡ length (pathOf f)
+      end = omega (
+        arith,
+        room,
+        field 5,
+        s .drawn .path,
+        length-take (f .length) (hopsOf (f .nodes) (f .costs)),
+        length-hops (f .nodes) (f .costs) mostNodes (s .nodes) (s .costs),
+      )
+
+      long : length (pathIn net a) ≡ length (pathOf f)
+      long = reading.path-length net a ∙ end
+
+      each : (k : ℕ) → k < length (pathIn net a) → getD (pathIn net a) k nets.noHop ≡ getD (pathOf f) k nets.noHop
+      each k h =
+          let u : k < mostNodes = omega (arith, room, reading.path-length net a) in
+          reading.path-at net a k (omega (arith, reading.path-length net a))
+          ∙ (λ x. record { node = (field (6 + 2 * k) ∙ s .drawn .node k u) x; cost = (field (7 + 2 * k) ∙ s .drawn .cost k u) x })
+          ∙ sym (path-at f (s .nodes) (s .costs) k (omega (arith, long)))
+
+  flow-read : flowIn net a ≡ flowOf f
+  flow-read =
+      let place : 4 + a * 22 + 0 ≡ 4 + a * 22 = omega arith in
+      λ x. record {
+        number = (field 0 ∙ ap (values net) place ∙ s .drawn .number) x;
+        priority = (field 1 ∙ s .drawn .priority) x;
+        period = (field 2 ∙ s .drawn .period) x;
+        jitter = (field 3 ∙ s .drawn .jitter) x;
+        deadline = (field 4 ∙ s .drawn .deadline) x;
+        path = path-read x;
+      }
+
+-- a row of which the flows below a are drawn
+pub record Pictured (row : Row) (lmin lmax : ℕ) (a : ℕ) (net : List ℕ) : Type 0 where
+  pub count : values net 0 ≡ length (held row)
+  pub room : values net 1 ≡ mostNodes
+  pub low : values net 2 ≡ lmin
+  pub high : values net 3 ≡ lmax
+  pub flows : (b : ℕ) → b < a → Stands (placed row b) (4 + b * 22) net
+  pub long : length net ≡ 356
+
+module _ (row : Row) (lmin lmax : ℕ) where
+  pub picture-none : (n : ℕ) → n ≡ length (held row) → Pictured row lmin lmax 0 (set (set (set (set (replicate 356 0) 0 n) 1 mostNodes) 2 lmin) 3 lmax)
+  picture-none n e = record {
+    count = e;
+    room = refl;
+    low = refl;
+    high = refl;
+    flows = λ b h. absurd (omega arith);
+    long = simp (length-set, length-replicate);
+  }
+
+  pub picture-more : (a : ℕ) (net net′ : List ℕ) (f : Flow) → Pictured row lmin lmax a net → f ≡ placed row a → length (f .nodes) ≡ mostNodes → length (f .costs) ≡ mostNodes →
+      DrawnAt f (4 + a * 22) net net′ → Pictured row lmin lmax (a + 1) net′
+  picture-more a net net′ f i e nodes costs d = record {
+    count = d .before 0 (omega arith) ∙ i .count;
+    room = d .before 1 (omega arith) ∙ i .room;
+    low = d .before 2 (omega arith) ∙ i .low;
+    high = d .before 3 (omega arith) ∙ i .high;
+    flows = below-more (λ b. Stands (placed row b) (4 + b * 22) net′) a past
+        (subst (λ g. Stands g (4 + a * 22) net′) e (record { drawn = still-drawn f (4 + a * 22) net net′ net′ d (λ k h. refl); nodes = nodes; costs = costs }));
+    long = d .long ∙ i .long;
+  }
+    where
+      past : (b : ℕ) → b < a → Stands (placed row b) (4 + b * 22) net′
+      past b h =
+          let s = i .flows b h in
+          record {
+            drawn = still-drawn (placed row b) (4 + b * 22) net net net′ (s .drawn) (λ k l. d .before k (omega arith));
+            nodes = s .nodes;
+            costs = s .costs;
+          }
+
+  pub picture-end : (a n : ℕ) (net : List ℕ) → Pictured row lmin lmax a net → n ≡ length (held row) → n ≤ mostFlows → n ≤ a → netIn net ≡ netOf lmin lmax row
+  picture-end a n net i size few all = λ x. record { lmin = i .low x; lmax = i .high x; flows = flows x }
+    where
+      count : countIn net ≡ length (held row)
+      count = omega (arith, i .count)
+
+      room : roomIn net ≡ mostNodes
+      room = omega (arith, i .room)
+
+      each : (k : ℕ) → k < length (flowsIn net) → getD (flowsIn net) k nets.noFlow ≡ getD (map flowOf (held row)) k nets.noFlow
+      each k h =
+          let u : k < countIn net = omega (arith, reading.flows-length net) in
+          reading.flow-at net k u
+          ∙ flow-read (placed row k) net k room (i .flows k (omega (arith, count)))
+          ∙ sym (at-place lmin lmax row k)
+
+      flows : flowsIn net ≡ map flowOf (held row)
+      flows =
+          ext-getD nets.noFlow (flowsIn net) (map flowOf (held row)) (reading.flows-length net ∙ count ∙ sym (length-map (held row) flowOf)) each

@@ -1,2 +1,0 @@
--- The laws of `entries`.
-pub mod Sides

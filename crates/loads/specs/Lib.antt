@@ -1,0 +1,2 @@
+-- The definitions of `loads`.
+pub mod Load

@@ -1,0 +1,3 @@
+-- The laws of `nets`.
+pub mod Reading
+pub mod Places

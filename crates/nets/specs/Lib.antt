@@ -1,0 +1,2 @@
+-- The definitions of `nets`.
+pub mod Nets

@@ -1,3 +1,0 @@
--- The laws of `pairs`.
-pub mod Meeting
-pub mod Only

@@ -1,2 +1,0 @@
--- The definitions of `paths`.
-pub mod Paths

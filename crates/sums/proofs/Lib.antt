@@ -1,3 +1,0 @@
--- The laws of `sums`.
-pub mod Shared
-pub mod Turns

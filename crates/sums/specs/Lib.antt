@@ -1,2 +1,0 @@
--- The definitions of `sums`.
-pub mod Whole

@@ -1,0 +1,3 @@
+-- The definitions of `ways`.
+pub mod Ways
+pub mod Whole
