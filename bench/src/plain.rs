@@ -363,77 +363,111 @@ impl Prepared<'_> {
     }
 }
 
-fn term(e: &Entry, v: &[u64; SLOTS]) -> u64 {
-    if e.weight == 0 {
-        return 0;
-    }
-    let x = v[e.look % SLOTS] + e.plus;
+fn term(e: &Entry, seen: u64) -> u64 {
+    let x = seen + e.plus;
     if x < e.less {
         return 0;
     }
     (1 + (x - e.less) / e.period) * e.weight
 }
 
-fn sum(block: &Block, v: &[u64; SLOTS]) -> u64 {
-    let entries = &block.entries[..block.count];
-    block.base + entries.iter().map(|e| term(e, v)).sum::<u64>()
+/// What is kept of a node along the walk: the part of its sum that hangs on nothing but the instant, and the next step of each entry.
+#[derive(Clone, Copy, Default)]
+struct Kept {
+    sum: u64,
+    steps: [u64; FLOWS],
 }
 
-/// The starting time at node p, upwards from that of the instant tried before; none where its bound passes the horizon.
-fn start(block: &Block, v: &mut [u64; SLOTS], p: usize, counts: &mut Counts) -> Option<u64> {
-    let last = HORIZON + v[INSTANT];
-    let mut w = v[p];
-    while w + block.added <= last {
-        counts.sums += 1;
-        v[HERE] = w;
-        let s = sum(block, v);
-        if s <= w {
-            return Some(w);
-        }
-        w = s;
-    }
-    None
-}
-
-/// The instant after u at which the entry's count steps up.
-fn step_after(e: &Entry, u: u64) -> u64 {
+/// The instant after u at which the entry's count steps up; the end, if it does not look at the instant.
+fn step_after(e: &Entry, u: u64, end: u64) -> u64 {
     let x = u + e.plus;
-    if x < e.less {
+    if e.look != INSTANT {
+        end
+    } else if x < e.less {
         e.less - e.plus
     } else {
         u + e.period - (x - e.less) % e.period
     }
 }
 
-/// The instant after u at which a count of the instant steps up at any node, or the end if none does before. None is nearer than u + 1.
-fn next_step(sheet: &[Block], u: u64, end: u64) -> u64 {
-    let mut next = end;
-    for block in sheet {
-        if next == u + 1 {
-            break;
+impl Block {
+    fn begin(&self, kept: &mut Kept, u: u64, end: u64) -> u64 {
+        let mut next = end;
+        kept.sum = self.base;
+        for (step, e) in kept.steps.iter_mut().zip(&self.entries[..self.count]) {
+            if e.look == INSTANT {
+                kept.sum += term(e, u);
+            }
+            *step = step_after(e, u, end);
+            next = next.min(*step);
         }
-        next = block.entries[..block.count]
-            .iter()
-            .filter(|e| e.look == INSTANT && e.weight > 0)
-            .fold(next, |least, e| least.min(step_after(e, u)));
+        next
     }
-    next
+
+    fn advance(&self, kept: &mut Kept, u: u64, end: u64) -> u64 {
+        let mut next = end;
+        for (step, e) in kept.steps.iter_mut().zip(&self.entries[..self.count]) {
+            if *step == u {
+                kept.sum += e.weight;
+                *step = step_after(e, u, end);
+            }
+            next = next.min(*step);
+        }
+        next
+    }
+
+    fn sum(&self, kept: &Kept, v: &[u64; SLOTS]) -> u64 {
+        let entries = &self.entries[..self.count];
+        let looking = entries.iter().filter(|e| e.look != INSTANT);
+        kept.sum + looking.map(|e| term(e, v[e.look % SLOTS])).sum::<u64>()
+    }
+
+    /// The starting time at node p, upwards from that of the instant tried before; none where its bound passes the horizon.
+    fn start(
+        &self,
+        kept: &Kept,
+        v: &mut [u64; SLOTS],
+        p: usize,
+        counts: &mut Counts,
+    ) -> Option<u64> {
+        let last = HORIZON + v[INSTANT];
+        let mut w = v[p];
+        while w + self.added <= last {
+            counts.sums += 1;
+            v[HERE] = w;
+            let s = self.sum(kept, v);
+            if s <= w {
+                return Some(w);
+            }
+            w = s;
+        }
+        None
+    }
 }
 
 fn responses(sheet: &[Block], busy: u64, walk: Walk, counts: &mut Counts) -> Option<[u64; NODES]> {
     let mut v = [0u64; SLOTS];
     let mut best = [0u64; NODES];
+    let mut kept = [Kept::default(); NODES];
     let mut u = 0;
     while u < busy {
         counts.instants += 1;
+        let mut next = busy;
+        for (block, kept) in sheet.iter().zip(&mut kept) {
+            let step = match u {
+                0 => block.begin(kept, u, busy),
+                _ => block.advance(kept, u, busy),
+            };
+            next = next.min(step);
+        }
         v[INSTANT] = u;
         for (p, block) in sheet.iter().enumerate() {
-            let w = start(block, &mut v, p, counts)?;
+            let w = block.start(&kept[p], &mut v, p, counts)?;
             v[p] = w;
             best[p] = best[p].max((w + block.added).saturating_sub(u));
         }
         u = match walk {
-            Walk::Steps => next_step(sheet, u, busy),
+            Walk::Steps => next,
             Walk::Ticks => u + 1,
         };
     }

@@ -26,9 +26,9 @@ pub busies-more : (net busies : List ℕ) (a r : ℕ) → BusiesTo net busies a 
 busies-more net busies a r i h e = below-more (λ k. values (set busies a r) k ≡ busyLength (netIn net) (flowIn net k)) a
     (λ k q. getD-set-other busies a k r 0 (λ z. omega arith) ∙ i k q) (getD-set-same busies a r 0 h ∙ e)
 
-pub room-kept : (net busies replies marks sheet slots best busies′ marks′ : List ℕ) → Room net busies replies marks sheet slots best →
-    length busies′ ≡ length busies → length marks′ ≡ length marks → Room net busies′ replies marks′ sheet slots best
-room-kept net busies replies marks sheet slots best busies′ marks′ r p q = record {
+pub room-kept : (net busies replies marks sheet slots steps best busies′ marks′ : List ℕ) → Room net busies replies marks sheet slots steps best →
+    length busies′ ≡ length busies → length marks′ ≡ length marks → Room net busies′ replies marks′ sheet slots steps best
+room-kept net busies replies marks sheet slots steps best busies′ marks′ r p q = record {
   busies-long = omega (arith, r .busies-long);
   replies-long = r .replies-long;
   marks-long = omega (arith, r .marks-long);
@@ -37,6 +37,8 @@ room-kept net busies replies marks sheet slots best busies′ marks′ r p q = r
   sheet-small = r .sheet-small;
   slots-long = r .slots-long;
   slots-small = r .slots-small;
+  steps-long = r .steps-long;
+  steps-short = r .steps-short;
   best-long = r .best-long;
 }
 
@@ -50,13 +52,14 @@ zeros zero k = refl
 zeros (suc n) zero = refl
 zeros (suc n) (suc k) = zeros n k
 
-sizes : (n w : ℕ) → n ≤ mostFlows → mostNodes ≡ w → (n * n * (w + 3) ≤ 2816) × (n * w * 3 ≤ 384) × (n * w ≤ 128) × (1 + w * (3 + 5 * n) ≤ 665)
-sizes n w h e = subst (λ v. (n * n * (v + 3) ≤ 2816) × (n * v * 3 ≤ 384) × (n * v ≤ 128) × (1 + v * (3 + 5 * n) ≤ 665)) e
-    (omega (arith, mul-le-mul {n₁ = n} {m₁ = n} {n₂ = 16} {m₂ = 16} h h), omega arith, omega arith, omega arith)
+sizes : (n w : ℕ) → n ≤ mostFlows → mostNodes ≡ w →
+    (n * n * (w + 3) ≤ 2816) × (n * w * 3 ≤ 384) × (n * w ≤ 128) × (1 + w * (3 + 5 * n) ≤ 665) × (w * (1 + n) ≤ 136)
+sizes n w h e = subst (λ v. (n * n * (v + 3) ≤ 2816) × (n * v * 3 ≤ 384) × (n * v ≤ 128) × (1 + v * (3 + 5 * n) ≤ 665) × (v * (1 + n) ≤ 136)) e
+    (omega (arith, mul-le-mul {n₁ = n} {m₁ = n} {n₂ = 16} {m₂ = 16} h h), omega arith, omega arith, omega arith, omega arith)
 
 pub room-enough : (net : List ℕ) → countIn net ≤ mostFlows → roomIn net ≡ mostNodes →
     (countIn net * countIn net * pairSize net ≤ 2816) × (countIn net * roomIn net * 3 ≤ 384) ×
-    Room net (replicate 16 0) (replicate 128 0) (replicate 16 0) (replicate 665 0) (replicate 10 0) (replicate 8 0)
+    Room net (replicate 16 0) (replicate 128 0) (replicate 16 0) (replicate 665 0) (replicate 10 0) (replicate 136 0) (replicate 8 0)
 room-enough net few room =
     let s = sizes (countIn net) (roomIn net) few (sym room) in (
       s .0,
@@ -70,6 +73,8 @@ room-enough net few room =
         sheet-small = λ k. omega (arith, zeros 665 k);
         slots-long = omega arith;
         slots-small = λ k. omega (arith, zeros 10 k);
+        steps-long = s .4;
+        steps-short = omega arith;
         best-long = omega arith;
       },
     )

@@ -23,7 +23,8 @@ ghost use Rattle.engine.specs.Firsts.{FirstIs, hopAt, placed, figureOf, 
 ghost use Rattle.engine.specs.Findings.{crossed, overloaded, FindingIs};
 ghost use Rattle.engine.specs.Drawing.{DrawnAt};
 
-// What a set of at most 16 flows with 8 nodes takes: as numbers, facts of each two flows, facts of each place, response bounds, a sheet, starting times.
+// What a set of at most 16 flows with 8 nodes takes: as numbers, facts of each two flows, facts of each place, response bounds, a sheet, starting times,
+// next steps.
 const NET: usize = 356;
 
 const PAIRS: usize = 2816;
@@ -35,6 +36,8 @@ const PLACES: usize = 128;
 const SHEET: usize = 665;
 
 const SLOTS: usize = 10;
+
+const STEPS: usize = 136;
 
 // Accepted with the figures of each flow in the row's order; or the refusal, and figures of 0.
 pub struct Verdict {
@@ -169,9 +172,10 @@ fn find(
     marks: &mut [u64],
     sheet: &mut [u64],
     slots: &mut [u64],
+    steps: &mut [u64],
     best: &mut [u64],
 ) -> Finding
-    requires { ⌜ (countIn (now net) * countIn (now net) * pairSize (now net) ≤ length (now pairs)) × (countIn (now net) * roomIn (now net) * 3 ≤ length (now ways)) × Room (now net) (now busies) (now replies) (now marks) (now sheet) (now slots) (now best) ⌝ }
+    requires { ⌜ (countIn (now net) * countIn (now net) * pairSize (now net) ≤ length (now pairs)) × (countIn (now net) * roomIn (now net) * 3 ≤ length (now ways)) × Room (now net) (now busies) (now replies) (now marks) (now sheet) (now slots) (now steps) (now best) ⌝ }
     ensures { λ r. ⌜ FindingIs (now (net .entry)) (now (busies .exit)) (now (replies .exit)) r ⌝ }
     ensures { λ r. ⌜ (length (now (busies .exit)) ≡ length (now (busies .entry))) × (length (now (replies .exit)) ≡ length (now (replies .entry))) ⌝ }
 {
@@ -187,7 +191,18 @@ fn find(
         return Finding::Overloaded(overload);
     }
     ways::note_ways(net, pairs, ways);
-    if settle::settle(net, pairs, ways, busies, replies, marks, sheet, slots, best) {
+    if settle::settle(
+        net,
+        pairs,
+        ways,
+        busies,
+        replies,
+        marks,
+        sheet,
+        slots,
+        steps,
+        best,
+    ) {
         return Finding::Past;
     }
     Finding::Settled
@@ -311,6 +326,7 @@ pub fn judge(row: Row, lmin: u16, lmax: u16) -> Verdict
     let mut marks = [0u64; FLOWS];
     let mut sheet = [0u64; SHEET];
     let mut slots = [0u64; SLOTS];
+    let mut steps = [0u64; STEPS];
     let mut best = [0u64; NODES];
     let found = find(
         &net,
@@ -321,6 +337,7 @@ pub fn judge(row: Row, lmin: u16, lmax: u16) -> Verdict
         &mut marks,
         &mut sheet,
         &mut slots,
+        &mut steps,
         &mut best,
     );
     match found {

@@ -76,24 +76,34 @@ ceil-pos b t p q = elim (le-or-lt (ceil b t) 0) [ inl r ↦ omega (arith, le-cei
 pub count-mono : {a a′ : ℕ} (b t : ℕ) → 0 < t → a ≤ a′ → count a b t ≤ count a′ b t
 count-mono {a} {a′} b t p h = count-le a b t (count a′ b t) p (omega (arith, le-count a′ b t (count a′ b t) p (le-refl _)))
 
+pub div-none : (x t : ℕ) → t ≤ 0 → x / t ≡ 0
+div-none x t z = ap (λ s. x / s) (omega arith) ∙ div-zero x
+
 -- also without a period
 pub count-rises : {a a′ : ℕ} (b t : ℕ) → a ≤ a′ → count a b t ≤ count a′ b t
 count-rises {a} {a′} b t h = elim (le-or-lt t 0) [
   | inl z ↦ elim (le-or-lt b a) [
-    | inl q ↦ omega (arith, count-in a b t q, count-in a′ b t (omega arith), flat z (a - b), flat z (a′ - b))
+    | inl q ↦ omega (arith, count-in a b t q, count-in a′ b t (omega arith), div-none (a - b) t z, div-none (a′ - b) t z)
     | inr q ↦ omega (arith, count-out a b t q)
   ]
   | inr p ↦ count-mono b t p h
 ]
-  where
-    flat : t ≤ 0 → (x : ℕ) → x / t ≡ 0
-    flat z x = ap (λ s. x / s) (omega arith) ∙ div-zero x
 
 -- Compared as differences: a − b at most c above a′ − b′.
 pub count-grows : (a b a′ b′ c t : ℕ) → 0 < t → a + b′ ≤ a′ + b + c → count a b t ≤ count a′ b′ t + ceil c t
 count-grows a b a′ b′ c t p h =
     count-le a b t (count a′ b′ t + ceil c t) p
     (omega (arith, le-count a′ b′ t (count a′ b′ t) p (le-refl _), le-ceil c t (ceil c t) p (le-refl _)))
+
+-- by at most one in a tick, also without a period
+pub count-tick : (a a′ b t : ℕ) → a′ ≤ a + 1 → count a′ b t ≤ count a b t + 1
+count-tick a a′ b t h = elim (le-or-lt t 0) [
+  | inl z ↦ elim (le-or-lt b a′) [
+    | inl q ↦ omega (arith, count-in a′ b t q, div-none (a′ - b) t z)
+    | inr q ↦ omega (arith, count-out a′ b t q)
+  ]
+  | inr p ↦ omega (arith, count-grows a′ b a b 1 t p (omega arith), ceil-le 1 t 1 p (omega arith))
+]
 
 -- at least one packet in a span that is not negative
 pub count-some : (a b t : ℕ) → 0 < t → b ≤ a → 0 < count a b t

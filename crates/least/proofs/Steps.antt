@@ -1,15 +1,15 @@
 -- The next step of a count and of a sum, and that what lies between two steps adds nothing to a maximum. Assumes nothing.
-use mathlib.Core.Path.{_≡_, ap, _∙_}
+use mathlib.Core.Path.{_≡_, sym, ap, _∙_}
 use mathlib.Core.Logic.{inl, inr}
 use Prim.Native.Nat.{ℕ, zero, suc, _+_, _-_, _/_, _%_, _≤_, _<_, min}
 use native.Mathlib.Omega.{arith}
-use native.Mathlib.Nat.{mod-lt, div-add-mod', div-zero}
+use native.Mathlib.Nat.{mod-lt, div-add-mod'}
 use native.Mathlib.Numerals.{add-one}
 use Rattle.least.specs.Count.{count}
 use Rattle.least.specs.Fold.{sumTo}
 use Rattle.least.specs.Instants.{bestTo}
 use Rattle.least.specs.Steps.{Step}
-use Rattle.least.proofs.Count.{le-or-lt, count-in, count-out, count-le, le-count, count-rises}
+use Rattle.least.proofs.Count.{le-or-lt, count-in, count-out, count-le, le-count, div-none, count-rises}
 
 pub step-one : {φ : ℕ → ℕ} {u end r s : ℕ} → Step φ u end r → Step φ u end s → r ≡ s
 step-one {φ} {u} {end} {r} {s} p q = elim (le-or-lt r s) [
@@ -32,24 +32,42 @@ step-ext {φ} {ψ} {u} {end} {r} e p = record {
 pub step-none : {φ : ℕ → ℕ} {u end : ℕ} → ((v : ℕ) → u ≤ v → φ v ≡ φ u) → u < end → Step φ u end end
 step-none {φ} {u} {end} h q = record { later = q; most = omega arith; still = λ v a b. h v a; up = λ z. absurd (omega arith) }
 
--- nothing lies between u and the tick after it
-pub step-near : {φ : ℕ → ℕ} {u r : ℕ} → r ≡ u + 1 → Step φ u r r
-step-near {φ} {u} {r} e = record { later = omega arith; most = omega arith; still = λ v a b. (let q : v ≡ u = omega arith in ap φ q); up = λ z. absurd (omega arith) }
+-- from a later instant before it the next step is the same
+pub step-on : {φ : ℕ → ℕ} {u end r v : ℕ} → Step φ u end r → u ≤ v → v < r → Step φ v end r
+step-on {φ} {u} {end} {r} {v} p h q = record {
+  later = q;
+  most = p .most;
+  still = λ t a b. p .still t (omega arith) b ∙ sym (p .still v h q);
+  up = λ z. omega (arith, p .up z, p .still v h q);
+}
 
--- of a sum the next step is the first of both, the second sought no further than the first
-pub step-both : {φ ψ : ℕ → ℕ} {u end r s : ℕ} → ((v : ℕ) → u ≤ v → ψ u ≤ ψ v) → Step φ u end r → Step ψ u r s → Step (λ v. φ v + ψ v) u end s
+-- what steps up wherever ψ does has no later step
+pub step-first : {φ ψ : ℕ → ℕ} {u end r s : ℕ} → ((v : ℕ) → u ≤ v → ψ u < ψ v → φ u < φ v) → Step φ u end r → Step ψ u end s → r ≤ s
+step-first {φ} {ψ} {u} {end} {r} {s} with-it p q = elim (le-or-lt r s) [
+  | inl h ↦ h
+  | inr h ↦ absurd (omega (
+    arith,
+    with-it s (omega (arith, q .later)) (q .up (omega (arith, p .most))),
+    p .still s (omega (arith, q .later)) h,
+  ))
+]
+
+-- of a sum the next step is the first of both
+pub step-both : {φ ψ : ℕ → ℕ} {u end r s : ℕ} → ((v : ℕ) → u ≤ v → ψ u ≤ ψ v) → Step φ u end r → Step ψ u end s →
+    Step (λ v. φ v + ψ v) u end (min r s)
 step-both {φ} {ψ} {u} {end} {r} {s} rises p q = record {
-  later = q .later;
-  most = omega (arith, p .most, q .most);
-  still = λ v a b. omega (arith, p .still v a (omega (arith, q .most)), q .still v a b);
+  later = omega (arith, p .later, q .later);
+  most = omega (arith, p .most);
+  still = λ v a b. omega (arith, p .still v a (omega arith), q .still v a (omega arith));
   up = λ h. elim (le-or-lt r s) [
-    | inl z ↦ (let e : r ≡ s = omega (arith, q .most) in omega (arith, p .up (omega (arith, e)), ap φ e, rises s (omega (arith, q .later))))
-    | inr z ↦ omega (arith, q .up z, p .still s (omega (arith, q .later)) z)
+    | inl z ↦ (let e : min r s ≡ r = omega arith in rw e (omega (arith, p .up (omega arith), rises r (omega (arith, p .later)))))
+    | inr z ↦ (let e : min r s ≡ s = omega arith in rw e (omega (arith, q .up (omega arith), p .still s (omega (arith, q .later)) z)))
   ];
 }
 
 -- the sum over one number more
-pub step-more : (f : ℕ → ℕ → ℕ) (u end j r s : ℕ) → ((v : ℕ) → u ≤ v → f u j ≤ f v j) → Step (λ v. sumTo j (f v)) u end r → Step (λ v. f v j) u r s → Step (λ v. sumTo (j + 1) (f v)) u end s
+pub step-more : (f : ℕ → ℕ → ℕ) (u end j r s : ℕ) → ((v : ℕ) → u ≤ v → f u j ≤ f v j) → Step (λ v. sumTo j (f v)) u end r → Step (λ v. f v j) u end s →
+    Step (λ v. sumTo (j + 1) (f v)) u end (min r s)
 unfolding sumTo
 step-more f u end j r s rises p q = rw (add-one j) (step-both rises p q)
 
@@ -73,10 +91,13 @@ module _ (a b t u end : ℕ) (on : u < end) where
   }
 
   pub count-ever : b ≤ u + a → t ≡ 0 → Step (λ v. count (v + a) b t) u end end
-  count-ever h z = step-none (λ v l. omega (arith, count-in (v + a) b t (omega arith), count-in (u + a) b t h, flat (v + a - b), flat (u + a - b))) on
-    where
-      flat : (x : ℕ) → x / t ≡ 0
-      flat x = ap (λ s. x / s) z ∙ div-zero x
+  count-ever h z = step-none (λ v l. omega (
+    arith,
+    count-in (v + a) b t (omega arith),
+    count-in (u + a) b t h,
+    div-none (v + a - b) t (omega arith),
+    div-none (u + a - b) t (omega arith),
+  )) on
 
   module _ (h : b ≤ u + a) (p : 0 < t) where
     rest : (u + a - b) % t < t

@@ -15,12 +15,14 @@ use Rattle.least.specs.Count.{pick}
 use Rattle.least.specs.Lists.{values}
 use Rattle.least.specs.Fold.{anyOf}
 use Rattle.least.proofs.Count.{le-or-lt}
+use Rattle.least.proofs.Fold.{sum-to-bound}
 use Rattle.least.proofs.Lists.{drop-next, drop-past, length-to, at-to}
 use Rattle.rules.specs.Net.{Flow}
 use Rattle.rules.specs.Formula.{Role, Own, Higher, Equal, Lower, role, higherOrEqual, crosses}
 use Rattle.nets.specs.Nets.{countIn, roomIn, lengthIn, flowIn, flowsIn, noFlow}
 use Rattle.crossings.specs.Pairs.{sideNumber}
-use Rattle.starts.specs.Sheet.{mostTime, Small}
+use Rattle.starts.specs.Sheet.{mostTime, entriesIn, Small}
+use Rattle.starts.specs.Kept.{stepsAt}
 use Rattle.starts.specs.Runs.{LowTo}
 use Rattle.starts.proofs.Nodes.{set-cases}
 use Rattle.settle.specs.Reading.{equal, meetsEqual, readsOf, readsOwn, readsFlow}
@@ -240,13 +242,22 @@ set-more l k x h z =
     below-more (λ j. values (set l k x) j ≡ x) k (λ j q. getD-set-other l k j x 0 (λ e. omega arith) ∙ z j q) (getD-set-same l k x 0 h)
 
 -- room
-module _ {net busies replies marks sheet slots best : List ℕ} (room : Room net busies replies marks sheet slots best) where
+module _ {net busies replies marks sheet slots steps best : List ℕ} (room : Room net busies replies marks sheet slots steps best) where
   pub sheet-fits : (a : ℕ) → 1 + lengthIn net a * (3 + 5 * countIn net) ≤ length sheet
   sheet-fits a = omega (arith, room .sheet-long, mul-le-mul-right {m = lengthIn net a} {n = roomIn net} (3 + 5 * countIn net) (omega arith))
 
-  pub room-kept : {replies′ marks′ sheet′ slots′ best′ : List ℕ} → length replies′ ≡ length replies → length marks′ ≡ length marks → length sheet′ ≡ length sheet →
-      length slots′ ≡ length slots → length best′ ≡ length best → Small sheet′ → Small slots′ → Room net busies replies′ marks′ sheet′ slots′ best′
-  room-kept r m e s b small small′ = record {
+  pub steps-fit : (e : List ℕ) (m : ℕ) → m ≤ roomIn net → ((p : ℕ) → p < m → entriesIn e p ≤ countIn net) → stepsAt e m ≤ length steps
+  steps-fit e m h few = omega (
+    arith,
+    room .steps-long,
+    mul-le-mul-right {m = m} {n = roomIn net} (1 + countIn net) h,
+    sum-to-bound m (λ p. 1 + entriesIn e p) (1 + countIn net) (λ p q. omega (arith, few p q)),
+  )
+
+  pub room-kept : {replies′ marks′ sheet′ slots′ steps′ best′ : List ℕ} → length replies′ ≡ length replies → length marks′ ≡ length marks →
+      length sheet′ ≡ length sheet → length slots′ ≡ length slots → length steps′ ≡ length steps → length best′ ≡ length best → Small sheet′ → Small slots′ →
+      Room net busies replies′ marks′ sheet′ slots′ steps′ best′
+  room-kept r m e s t b small small′ = record {
     busies-long = room .busies-long;
     replies-long = rw r (room .replies-long);
     marks-long = rw m (room .marks-long);
@@ -255,5 +266,7 @@ module _ {net busies replies marks sheet slots best : List ℕ} (room : Room net
     sheet-small = small;
     slots-long = rw s (room .slots-long);
     slots-small = small′;
+    steps-long = rw t (room .steps-long);
+    steps-short = rw t (room .steps-short);
     best-long = rw b (room .best-long);
   }

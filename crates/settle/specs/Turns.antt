@@ -50,7 +50,7 @@ pub record ChosenIs (marks : List ℕ) (n m r : ℕ) : Type 0 where
   pub none : n ≤ r → (b : ℕ) → b < m → values marks b ≡ 0
 
 -- what is lent has room
-pub record Room (net busies replies marks sheet slots best : List ℕ) : Type 0 where
+pub record Room (net busies replies marks sheet slots steps best : List ℕ) : Type 0 where
   pub busies-long : countIn net ≤ length busies
   pub replies-long : countIn net * roomIn net ≤ length replies
   pub marks-long : countIn net ≤ length marks
@@ -59,6 +59,8 @@ pub record Room (net busies replies marks sheet slots best : List ℕ) : Type 0 
   pub sheet-small : Small sheet
   pub slots-long : roomIn net + 2 ≤ length slots
   pub slots-small : Small slots
+  pub steps-long : roomIn net * (1 + countIn net) ≤ length steps
+  pub steps-short : length steps ≤ 16777216
   pub best-long : roomIn net ≤ length best
 
 -- zeros in the places that no flow has: behind the end of its path, and of flows from n on

@@ -162,18 +162,19 @@ fn turn(
     marks: &mut [u64],
     sheet: &mut [u64],
     slots: &mut [u64],
+    steps: &mut [u64],
     best: &mut [u64],
     a: usize,
 ) -> bool
-    requires { ⌜ Noted (now net) (now pairs) a a × WaysAre (now net) (now ways) × LowTo (countIn (now net)) (now busies) × Room (now net) (now busies) (now replies) (now marks) (now sheet) (now slots) (now best) × Fair (now net) (now replies) (now marks) ⌝ }
+    requires { ⌜ Noted (now net) (now pairs) a a × WaysAre (now net) (now ways) × LowTo (countIn (now net)) (now busies) × Room (now net) (now busies) (now replies) (now marks) (now sheet) (now slots) (now steps) (now best) × Fair (now net) (now replies) (now marks) ⌝ }
     ensures { λ r. ⌜ TurnIs (now (net .entry)) (now (busies .entry)) (now (replies .entry)) (now (marks .entry)) a r (now (replies .exit)) (now (marks .exit)) ⌝ }
-    ensures { λ r. ⌜ Room (now (net .entry)) (now (busies .entry)) (now (replies .exit)) (now (marks .exit)) (now (sheet .exit)) (now (slots .exit)) (now (best .exit)) × Fair (now (net .entry)) (now (replies .exit)) (now (marks .exit)) ⌝ }
+    ensures { λ r. ⌜ Room (now (net .entry)) (now (busies .entry)) (now (replies .exit)) (now (marks .exit)) (now (sheet .exit)) (now (slots .exit)) (now (steps .exit)) (now (best .exit)) × Fair (now (net .entry)) (now (replies .exit)) (now (marks .exit)) ⌝ }
 {
     marks[a] = 0;
     sheets::write(net, pairs, ways, replies, sheet, a);
     let m = nets::hops(net, a);
     let end = busies[a];
-    if starts::responses(sheet, slots, best, m, end) {
+    if starts::responses(sheet, slots, steps, best, m, end) {
         return true;
     }
     if raise(replies, best, a * nets::room(net), m) == 0 {
@@ -196,7 +197,7 @@ fn all_set(l: &mut [u64], x: u64)
 }
 
 // The response bounds with the least settled arrival bounds: of flow a at place k of its path at a × room + k, and zeros in all other places. Whether
-// there are none, and then zeros alone. Marks, sheet, slots and best are worked on.
+// there are none, and then zeros alone. Marks, sheet, slots, steps and best are worked on.
 pub fn settle(
     net: &[u16],
     pairs: &[u8],
@@ -206,9 +207,10 @@ pub fn settle(
     marks: &mut [u64],
     sheet: &mut [u64],
     slots: &mut [u64],
+    steps: &mut [u64],
     best: &mut [u64],
 ) -> bool
-    requires { ⌜ PairsAre (now net) (now pairs) × WaysAre (now net) (now ways) × LowTo (countIn (now net)) (now busies) × Room (now net) (now busies) (now replies) (now marks) (now sheet) (now slots) (now best) ⌝ }
+    requires { ⌜ PairsAre (now net) (now pairs) × WaysAre (now net) (now ways) × LowTo (countIn (now net)) (now busies) × Room (now net) (now busies) (now replies) (now marks) (now sheet) (now slots) (now steps) (now best) ⌝ }
     ensures { λ r. ⌜ SettleIs (now (net .entry)) (now (busies .entry)) r (now (replies .exit)) ⌝ }
     ensures { λ r. ⌜ length (now (replies .exit)) ≡ length (now (replies .entry)) ⌝ }
 {
@@ -226,6 +228,7 @@ pub fn settle(
             marks,
             sheet,
             slots,
+            steps,
             best,
             a,
         ) {

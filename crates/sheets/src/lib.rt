@@ -267,6 +267,7 @@ pub fn write(net: &[u16], pairs: &[u8], ways: &[u64], replies: &[u64], sheet: &m
     ensures { λ r. ⌜ (Valid (netIn (now (net .entry))) → SheetIs (netIn (now (net .entry))) (roomIn (now (net .entry))) (values (now (replies .entry))) a (now (sheet .exit))) ⌝ }
     ensures { λ r. ⌜ Shaped (now (sheet .exit)) (lengthIn (now (net .entry)) a) ⌝ }
     ensures { λ r. ⌜ length (now (sheet .exit)) ≡ length (now (sheet .entry)) ⌝ }
+    ensures { λ r. ⌜ ((p : ℕ) → p < lengthIn (now (net .entry)) a → entriesIn (now (sheet .exit)) p ≤ countIn (now (net .entry))) ⌝ }
 {
     begin(net, ways, sheet, a);
     let n = nets::count(net);

@@ -49,6 +49,18 @@ entryAt e p q = blockAt e p + headSize + q * entrySize
 unfoldable pub termOf : List ℕ → (ℕ → ℕ) → ℕ → ℕ
 termOf e v k = count (v (values e k) + values e (k + 1)) (values e (k + 2)) (values e (k + 3)) * values e (k + 4)
 
+-- what it adds at the instant u, if it looks at the instant
+unfoldable pub instantTerm : List ℕ → ℕ → ℕ → ℕ
+instantTerm e u k = pick (eqb (values e k) instantSlot) (termOf e (λ l. u) k) 0
+
+-- what it adds if it looks elsewhere
+unfoldable pub lookTerm : List ℕ → (ℕ → ℕ) → ℕ → ℕ
+lookTerm e v k = pick (eqb (values e k) instantSlot) 0 (termOf e v k)
+
+-- what of the sum at node p hangs on the instant alone
+unfoldable pub instantSum : List ℕ → ℕ → ℕ → ℕ
+instantSum e p u = values e (blockAt e p) + sumTo (entriesIn e p) (λ q. instantTerm e u (entryAt e p q))
+
 unfoldable pub sheetSum : List ℕ → ℕ → (ℕ → ℕ) → ℕ
 sheetSum e p v = values e (blockAt e p) + sumTo (entriesIn e p) (λ q. termOf e v (entryAt e p q))
 

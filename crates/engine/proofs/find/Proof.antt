@@ -9,13 +9,13 @@ use Rattle.engine.proofs.find.Statement.{statement}
 use Rattle.engine.proofs.find.Tie as tie
 
 -- no flow is misplaced, and none is overloaded
-clear : (c : tie.Else1) → let net = c .before .before .before .before .before .before .before .before .before .before .before .before .before .before .before .before .before .args .net .now in Clear (crossed net) (countIn net)
+clear : (c : tie.Else1) → let net = c .before .before .before .before .before .before .before .before .before .before .before .before .before .before .before .before .before .before .args .net .now in Clear (crossed net) (countIn net)
 clear c =
     let n = c .before .before .before .count in
     let m = c .before .first-misplaced in
     found-clear _ (n .result) _ (m .result) (n .ensures .0) (m .ensures) (c .if1 .left)
 
-light : (c : tie.Else2) → Clear (overloaded (c .before .before .before .before .before .before .before .note-busies .last .1 .1 .1 .0)) (countIn (c .before .before .before .before .before .before .before .before .before .before .before .before .before .before .before .before .before .before .before .before .before .before .before .before .before .before .before .before .args .net .now))
+light : (c : tie.Else2) → Clear (overloaded (c .before .before .before .before .before .before .before .note-busies .last .1 .1 .1 .0)) (countIn (c .before .before .before .before .before .before .before .before .before .before .before .before .before .before .before .before .before .before .before .before .before .before .before .before .before .before .before .before .before .args .net .now))
 light c =
     let n = c .before .before .before .before .before .before .before .before .before .before .before .before .before .before .count in
     let o = c .before .first-overload in
@@ -74,14 +74,14 @@ note-ways-requires c κs = search needs
 
 settle-requires : tie.Need-settle-requires
 settle-requires c κs =
-    let a = c .before .before .before .before .before .before .before .before .before .before .before .before .before .before .before .before .before .before .before .before .before .before .before .before .before .before .before .before .before .before .before .before .before .before .before .before .before .before .before .before .before in
-    let p = c .before .before .before .before .before .before .before .before .before .before .before .before .before .before .before .before .before .before .before .before .before .before .before .before .before .before .before .before .before .before .note-pairs in
-    let b = c .before .before .before .before .before .before .before .before .before .before .before .before .before .before .before .before .before .before .before .before .note-busies in
-    let w = c .before .before .before .before .before .before .before .before .before .before .note-ways in
-    (p .ensures .0, w .ensures .0, clear-low (b .last .1 .1 .1 .0) _ (light (c .before .before .before .before .before .before .before .before .before .before .before .before .before)), room-kept _ _ _ _ _ _ _ _ _ (a .pre .2) (b .ensures .1 .0) (b .ensures .1 .1))
+    let a = c .before .before .before .before .before .before .before .before .before .before .before .before .before .before .before .before .before .before .before .before .before .before .before .before .before .before .before .before .before .before .before .before .before .before .before .before .before .before .before .before .before .before .before in
+    let p = c .before .before .before .before .before .before .before .before .before .before .before .before .before .before .before .before .before .before .before .before .before .before .before .before .before .before .before .before .before .before .before .note-pairs in
+    let b = c .before .before .before .before .before .before .before .before .before .before .before .before .before .before .before .before .before .before .before .before .before .note-busies in
+    let w = c .before .before .before .before .before .before .before .before .before .before .before .note-ways in
+    (p .ensures .0, w .ensures .0, clear-low (b .last .1 .1 .1 .0) _ (light (c .before .before .before .before .before .before .before .before .before .before .before .before .before .before)), room-kept _ _ _ _ _ _ _ _ _ _ (a .pre .2) (b .ensures .1 .0) (b .ensures .1 .1))
 
 same-length-5 : tie.Need-same-length-5
-same-length-5 c = c .before .before .before .before .before .before .before .before .before .before .before .before .before .before .before .before .before .before .before .before .before .before .before .before .before .before .before .before .before .before .before .before .before .before .before .before .before .before .before .before .before .before .note-pairs .ensures .1
+same-length-5 c = c .before .before .before .before .before .before .before .before .before .before .before .before .before .before .before .before .before .before .before .before .before .before .before .before .before .before .before .before .before .before .before .before .before .before .before .before .before .before .before .before .before .before .before .before .before .note-pairs .ensures .1
 
 same-length-6 : tie.Need-same-length-6
 same-length-6 c = search needs
@@ -104,17 +104,17 @@ same-length-11 c = search needs
 same-length-12 : tie.Need-same-length-12
 same-length-12 c = search needs
 
+same-length-13 : tie.Need-same-length-13
+same-length-13 c = search needs
+
 returns-3 : tie.Need-returns-3
 returns-3 c =
-    let b = c .before .before .before .before .before .before .before .before .before .before .before .before .before .before .before .before .before .before .before .before .before .before .before .before .before .before .before .before .before .before .before .before .note-busies in
-    let s = c .before .before .before .before .before .before .before .before .before .before .before .settle in
-    ((clear (c .before .before .before .before .before .before .before .before .before .before .before .before .before .before .before .before .before .before .before .before .before .before .before .before .before .before .before .before .before .before .before .before .before .before .before .before), outcome-is _ _ _ (s .result) _ (light (c .before .before .before .before .before .before .before .before .before .before .before .before .before .before .before .before .before .before .before .before .before .before .before .before .before)) (b .ensures .0) (s .ensures .0) (c .if3 .taken)), (b .ensures .1 .0, s .ensures .1))
-
-same-length-13 : tie.Need-same-length-13
-same-length-13 c = c .before .before .before .before .before .before .before .before .before .before .before .before .before .before .before .before .before .before .before .before .before .before .before .before .before .before .before .before .before .before .before .before .before .before .before .before .before .before .before .before .before .before .note-pairs .ensures .1
+    let b = c .before .before .before .before .before .before .before .before .before .before .before .before .before .before .before .before .before .before .before .before .before .before .before .before .before .before .before .before .before .before .before .before .before .before .before .note-busies in
+    let s = c .before .before .before .before .before .before .before .before .before .before .before .before .before .settle in
+    ((clear (c .before .before .before .before .before .before .before .before .before .before .before .before .before .before .before .before .before .before .before .before .before .before .before .before .before .before .before .before .before .before .before .before .before .before .before .before .before .before .before), outcome-is _ _ _ (s .result) _ (light (c .before .before .before .before .before .before .before .before .before .before .before .before .before .before .before .before .before .before .before .before .before .before .before .before .before .before .before .before)) (b .ensures .0) (s .ensures .0) (c .if3 .taken)), (b .ensures .1 .0, s .ensures .1))
 
 same-length-14 : tie.Need-same-length-14
-same-length-14 c = search needs
+same-length-14 c = c .before .before .before .before .before .before .before .before .before .before .before .before .before .before .before .before .before .before .before .before .before .before .before .before .before .before .before .before .before .before .before .before .before .before .before .before .before .before .before .before .before .before .before .before .before .note-pairs .ensures .1
 
 same-length-15 : tie.Need-same-length-15
 same-length-15 c = search needs
@@ -134,11 +134,17 @@ same-length-19 c = search needs
 same-length-20 : tie.Need-same-length-20
 same-length-20 c = search needs
 
+same-length-21 : tie.Need-same-length-21
+same-length-21 c = search needs
+
+same-length-22 : tie.Need-same-length-22
+same-length-22 c = search needs
+
 returns-4 : tie.Need-returns-4
 returns-4 c =
-    let b = c .before .before .before .before .before .before .before .before .before .before .before .before .before .before .before .before .before .before .before .before .before .before .before .before .before .before .before .before .before .before .before .before .note-busies in
-    let s = c .before .before .before .before .before .before .before .before .before .before .before .settle in
-    ((clear (c .before .before .before .before .before .before .before .before .before .before .before .before .before .before .before .before .before .before .before .before .before .before .before .before .before .before .before .before .before .before .before .before .before .before .before .before), outcome-is _ _ _ (s .result) _ (light (c .before .before .before .before .before .before .before .before .before .before .before .before .before .before .before .before .before .before .before .before .before .before .before .before .before)) (b .ensures .0) (s .ensures .0) (c .if3 .left)), (b .ensures .1 .0, s .ensures .1))
+    let b = c .before .before .before .before .before .before .before .before .before .before .before .before .before .before .before .before .before .before .before .before .before .before .before .before .before .before .before .before .before .before .before .before .before .before .before .note-busies in
+    let s = c .before .before .before .before .before .before .before .before .before .before .before .before .before .settle in
+    ((clear (c .before .before .before .before .before .before .before .before .before .before .before .before .before .before .before .before .before .before .before .before .before .before .before .before .before .before .before .before .before .before .before .before .before .before .before .before .before .before .before), outcome-is _ _ _ (s .result) _ (light (c .before .before .before .before .before .before .before .before .before .before .before .before .before .before .before .before .before .before .before .before .before .before .before .before .before .before .before .before)) (b .ensures .0) (s .ensures .0) (c .if3 .left)), (b .ensures .1 .0, s .ensures .1))
 
 pub find-spec : {M : Type 1} → statement M
 find-spec =
@@ -165,8 +171,8 @@ find-spec =
     same-length-10
     same-length-11
     same-length-12
-    returns-3
     same-length-13
+    returns-3
     same-length-14
     same-length-15
     same-length-16
@@ -174,4 +180,6 @@ find-spec =
     same-length-18
     same-length-19
     same-length-20
+    same-length-21
+    same-length-22
     returns-4)

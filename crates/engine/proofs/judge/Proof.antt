@@ -15,35 +15,35 @@ use Rattle.engine.proofs.judge.Tie as tie
 
 -- what was found, in each arm
 misplaced : (c : tie.After-found) →
-    let p = c .before .before .before .before .before .before .before .before .before .before .before .before .before .before .before .before .before .before .before .before .picture in
-    let f = c .before .before .before .before .before .before .before .before .before .before .find in
+    let p = c .before .before .before .before .before .before .before .before .before .before .before .before .before .before .before .before .before .before .before .before .before .before .picture in
+    let f = c .before .before .before .before .before .before .before .before .before .before .before .find in
     FirstAt (crossed (p .result)) (countIn (p .result)) (c .found .given .0 .0)
 misplaced c =
-    let f = c .before .before .before .before .before .before .before .before .before .before .find in
+    let f = c .before .before .before .before .before .before .before .before .before .before .before .find in
     subst (FindingIs _ (f .last .1 .1 .1 .0) (f .last .1 .1 .1 .1 .0)) (c .found .given .1) (f .ensures .0)
 
 overloaded : (c : tie.After-found2) →
-    let p = c .before .before .before .before .before .before .before .before .before .before .before .before .before .before .before .before .before .before .before .before .picture in
-    let f = c .before .before .before .before .before .before .before .before .before .before .find in
+    let p = c .before .before .before .before .before .before .before .before .before .before .before .before .before .before .before .before .before .before .before .before .before .before .picture in
+    let f = c .before .before .before .before .before .before .before .before .before .before .before .find in
     Clear (crossed (p .result)) (countIn (p .result)) × Heavy (p .result) (f .last .1 .1 .1 .0) (c .found2 .given .0 .0)
 overloaded c =
-    let f = c .before .before .before .before .before .before .before .before .before .before .find in
+    let f = c .before .before .before .before .before .before .before .before .before .before .before .find in
     subst (FindingIs _ (f .last .1 .1 .1 .0) (f .last .1 .1 .1 .1 .0)) (c .found2 .given .1) (f .ensures .0)
 
 past : (c : tie.After-enum-told) →
-    let p = c .before .before .before .before .before .before .before .before .before .before .before .before .before .before .before .before .before .before .before .before .picture in
-    let f = c .before .before .before .before .before .before .before .before .before .before .find in
+    let p = c .before .before .before .before .before .before .before .before .before .before .before .before .before .before .before .before .before .before .before .before .before .before .picture in
+    let f = c .before .before .before .before .before .before .before .before .before .before .before .find in
     Clear (crossed (p .result)) (countIn (p .result)) × Outcome (p .result) (f .last .1 .1 .1 .0) true (f .last .1 .1 .1 .1 .0)
 past c =
-    let f = c .before .before .before .before .before .before .before .before .before .before .find in
+    let f = c .before .before .before .before .before .before .before .before .before .before .before .find in
     subst (FindingIs _ (f .last .1 .1 .1 .0) (f .last .1 .1 .1 .1 .0)) (c .enum-told .given .1) (f .ensures .0)
 
 settled : (c : tie.After-enum-told2) →
-    let p = c .before .before .before .before .before .before .before .before .before .before .before .before .before .before .before .before .before .before .before .before .picture in
-    let f = c .before .before .before .before .before .before .before .before .before .before .find in
+    let p = c .before .before .before .before .before .before .before .before .before .before .before .before .before .before .before .before .before .before .before .before .before .before .picture in
+    let f = c .before .before .before .before .before .before .before .before .before .before .before .find in
     Clear (crossed (p .result)) (countIn (p .result)) × Outcome (p .result) (f .last .1 .1 .1 .0) false (f .last .1 .1 .1 .1 .0)
 settled c =
-    let f = c .before .before .before .before .before .before .before .before .before .before .find in
+    let f = c .before .before .before .before .before .before .before .before .before .before .before .find in
     subst (FindingIs _ (f .last .1 .1 .1 .0) (f .last .1 .1 .1 .1 .0)) (c .enum-told2 .given .1) (f .ensures .0)
 
 picture-requires : tie.Need-picture-requires
@@ -76,9 +76,12 @@ slice-aggregate-find-8 c = search needs
 slice-aggregate-find-9 : tie.Need-slice-aggregate-find-9
 slice-aggregate-find-9 c = search needs
 
+slice-aggregate-find-10 : tie.Need-slice-aggregate-find-10
+slice-aggregate-find-10 c = search needs
+
 find-requires : tie.Need-find-requires
 find-requires c κs =
-    let p = c .before .before .before .before .before .before .before .before .before .picture in
+    let p = c .before .before .before .before .before .before .before .before .before .before .picture in
     room-enough (p .result) (p .ensures .1 .1) (p .ensures .1 .2)
 
 enum-known-found : tie.Need-enum-known-found
@@ -86,7 +89,7 @@ enum-known-found c = search needs
 
 number-at-requires : tie.Need-number-at-requires
 number-at-requires c κs =
-    let p = c .before .before .before .before .before .before .before .before .before .before .before .before .before .before .before .before .before .before .before .before .before .picture in
+    let p = c .before .before .before .before .before .before .before .before .before .before .before .before .before .before .before .before .before .before .before .before .before .before .before .picture in
     omega (arith, misplaced (c .before) .within, p .ensures .1 .0)
 
 refuse-requires : tie.Need-refuse-requires
@@ -97,7 +100,7 @@ enum-known-found-2 c = search needs
 
 number-at-requires-2 : tie.Need-number-at-requires-2
 number-at-requires-2 c κs =
-    let p = c .before .before .before .before .before .before .before .before .before .before .before .before .before .before .before .before .before .before .before .before .before .picture in
+    let p = c .before .before .before .before .before .before .before .before .before .before .before .before .before .before .before .before .before .before .before .before .before .before .before .picture in
     omega (arith, overloaded (c .before) .1 .heavy .within, p .ensures .1 .0)
 
 refuse-requires-2 : tie.Need-refuse-requires-2
@@ -114,8 +117,8 @@ enum-told-2 c = search needs
 
 figures-of-requires : tie.Need-figures-of-requires
 figures-of-requires c κs =
-    let p = c .before .before .before .before .before .before .before .before .before .before .before .before .before .before .before .before .before .before .before .before .picture in
-    let f = c .before .before .before .before .before .before .before .before .before .before .find in
+    let p = c .before .before .before .before .before .before .before .before .before .before .before .before .before .before .before .before .before .before .before .before .before .before .picture in
+    let f = c .before .before .before .before .before .before .before .before .before .before .before .find in
     (settled c .1 .settled .low, λ k h. clear-low (f .last .1 .1 .1 .0) (countIn (p .result)) (settled c .1 .light) k (omega (arith, p .ensures .1 .0)))
 
 judge-figures-requires : tie.Need-judge-figures-requires
@@ -123,26 +126,26 @@ judge-figures-requires c κs = search needs
 
 returns : tie.Need-returns
 returns c =
-    let p = c .before .before .before .before .before .before .before .before .before .before .before .before .before .before .before .before .before .before .before .before .before .before .before .picture in
+    let p = c .before .before .before .before .before .before .before .before .before .before .before .before .before .before .before .before .before .before .before .before .before .before .before .before .before .picture in
     let n = c .before .number-at in
     judge-meant _ _ _ _ (λ v. crossing-said _ _ _ v (p .result) (p .ensures .0) _ _ (misplaced (c .before .before .before)) (c .refuse .ensures ∙ ap (λ k. refused (Crossing k)) (n .ensures)))
 
 returns-2 : tie.Need-returns-2
 returns-2 c =
-    let p = c .before .before .before .before .before .before .before .before .before .before .before .before .before .before .before .before .before .before .before .before .before .before .before .picture in
+    let p = c .before .before .before .before .before .before .before .before .before .before .before .before .before .before .before .before .before .before .before .before .before .before .before .before .before .picture in
     let n = c .before .number-at2 in
     let o = overloaded (c .before .before .before) in
     judge-meant _ _ _ _ (λ v. overload-said _ _ _ v (p .result) (p .ensures .0) _ (o .0) _ _ (o .1) (c .refuse2 .ensures ∙ ap (λ k. refused (NoBusyLength k)) (n .ensures)))
 
 returns-3 : tie.Need-returns-3
 returns-3 c =
-    let p = c .before .before .before .before .before .before .before .before .before .before .before .before .before .before .before .before .before .before .before .before .before .picture in
+    let p = c .before .before .before .before .before .before .before .before .before .before .before .before .before .before .before .before .before .before .before .before .before .before .before .picture in
     let o = past (c .before) in
     judge-meant _ _ _ _ (λ v. unsettled-said _ _ _ v (p .result) (p .ensures .0) _ (o .0) _ _ (o .1) (c .refuse3 .ensures))
 
 returns-4 : tie.Need-returns-4
 returns-4 c =
-    let p = c .before .before .before .before .before .before .before .before .before .before .before .before .before .before .before .before .before .before .before .before .before .before .picture in
+    let p = c .before .before .before .before .before .before .before .before .before .before .before .before .before .before .before .before .before .before .before .before .before .before .before .before .picture in
     let t = c .before .figures-of in
     let o = settled (c .before .before) in
     judge-meant _ _ _ _ (λ v. figures-said _ _ _ v (p .result) (p .ensures .0) _ _ (o .1) (p .ensures .1 .1) (p .ensures .1 .2) (t .result) (t .ensures) (o .0) _ (c .judge-figures .ensures))
@@ -161,6 +164,7 @@ judge-spec =
     slice-aggregate-find-7
     slice-aggregate-find-8
     slice-aggregate-find-9
+    slice-aggregate-find-10
     find-requires
     enum-known-found
     number-at-requires

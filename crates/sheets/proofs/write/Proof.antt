@@ -49,7 +49,7 @@ returns c =
     let q = c .before .before .before .before .before .before .before .before .before .before .before .before .pre in
     let l = c .before .loop in
     let w = l .inv .1 ∙ c .before .before .before .before .before .begin .ensures .1 in
-    (filled-sheet (q .0 .one) (omega arith) (l .inv .2), (filled-shaped (q .0 .one) (omega arith) (l .inv .2) (omega (arith, q .5)), w))
+    (filled-sheet (q .0 .one) (omega arith) (l .inv .2), (filled-shaped (q .0 .one) (omega arith) (l .inv .2) (omega (arith, q .5)), (w, λ p h. omega (arith, l .inv .2 .few p h))))
 
 pub write-spec : {M : Type 1} → statement M
 write-spec =

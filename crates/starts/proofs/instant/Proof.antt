@@ -1,10 +1,12 @@
 -- `starts::instant` meets its contract.
-use Rattle.starts.specs.Sheet.{nodeSlot}
-use Rattle.least.specs.Lists.{values}
-use lib.ListN.{length-set}
-use mathlib.Core.Path.{ap, _∙_}
-use Rattle.starts.proofs.Nodes.{Going, going-start, first-set, going-past, begin-small, going-more, going-end, shaped-less}
 use Prim.Native.Nat.{_+_, _-_}
+use Rattle.starts.proofs.Nodes.{Going, going-start, first-set, going-past, begin-small, going-more, going-end, shaped-less}
+use Rattle.starts.proofs.Kept.{steps-none, steps-next, steps-apart}
+use mathlib.Core.Path.{_≡_, sym, ap, _∙_}
+use lib.ListN.{length-set}
+use Rattle.least.specs.Lists.{values}
+use Rattle.starts.specs.Kept.{stepsAt}
+use Rattle.starts.specs.Sheet.{nodeSlot, instantSum}
 use borrow.Author.Needs.{needs}
 use native.Mathlib.Omega.{arith}
 use Rattle.starts.proofs.instant.Statement.{statement}
@@ -14,21 +16,22 @@ use Rattle.starts.proofs.instant.Lts as lts
 use Rattle.least.proofs.greater.Reads as greater-reads
 use Rattle.least.proofs.less.Reads as less-reads
 use Rattle.starts.proofs.block_at.Reads as block-at-reads
+use Rattle.starts.proofs.entries_in.Reads as entries-in-reads
 use Rattle.starts.proofs.start_at.Reads as start-at-reads
 
 abbrev Inv-loop : tie.InvT-loop
-Inv-loop e slots₀ best₀ m u p₀ slots best p = Going e m u slots₀ best₀ slots best p
+Inv-loop e slots₀ steps best₀ m u at₀ p₀ slots best at p = Going e m u slots₀ best₀ slots best p × (at ≡ stepsAt e p)
 
 abbrev μ-loop : tie.MeasureT-loop
-μ-loop e slots₀ best₀ m u p₀ slots best p = m - p
+μ-loop e slots₀ steps best₀ m u at₀ p₀ slots best at p = m - p
 
 slice-write-slots : tie.Need-slice-write-slots Inv-loop μ-loop
 slice-write-slots c = search needs
 
 loop-holds : tie.Need-loop-holds Inv-loop μ-loop
 loop-holds c =
-    let a = c .before .before .before in
-    going-start (a .args .e .now) (a .args .m) (a .args .u) (a .args .slots .now) (a .args .best .now) (a .pre .3) (a .pre .4) (a .pre .1) (a .pre .2) (a .pre .5)
+    let a = c .before .before .before .before in
+    (going-start (a .args .e .now) (a .args .m) (a .args .u) (a .args .slots .now) (a .args .best .now) (a .pre .0 .3) (a .pre .0 .4) (a .pre .0 .1) (a .pre .0 .2) (a .pre .0 .5), steps-none (a .args .e .now))
 
 add-from : tie.Need-add-from Inv-loop μ-loop
 add-from c = search needs
@@ -39,11 +42,23 @@ mul-from c = search needs
 slice-read-from : tie.Need-slice-read-from Inv-loop μ-loop
 slice-read-from c = search needs
 
+mul-start-at : tie.Need-mul-start-at Inv-loop μ-loop
+mul-start-at c =
+    let a = c .before .before .before .before .before .before .before .before in
+    let l = c .before .before .before .loop in
+    omega (arith, a .pre .1 .0, a .pre .1 .1, l .inv .1, steps-apart (a .args .e .now) (l .p) (a .args .m) (omega arith))
+
+shared-slice-read-start-at : tie.Need-shared-slice-read-start-at Inv-loop μ-loop
+shared-slice-read-start-at c =
+    let a = c .before .before .before .before .before .before .before .before .before in
+    let l = c .before .before .before .before .loop in
+    omega (arith, a .pre .1 .0, l .inv .1, steps-apart (a .args .e .now) (l .p) (a .args .m) (omega arith))
+
 start-at-requires : tie.Need-start-at-requires Inv-loop μ-loop
 start-at-requires c κs =
-    let a = c .before .before .before .before .before .before .before in
-    let l = c .before .before .before .loop in
-    (shaped-less (omega arith) (a .pre .0), l .inv .small, omega (arith, l .inv .room), omega (arith, l .inv .time, a .pre .1), l .inv .small (nodeSlot (l .p)))
+    let a = c .before .before .before .before .before .before .before .before .before in
+    let l = c .before .before .before .before .loop in
+    (shaped-less (omega arith) (a .pre .0 .0), l .inv .0 .small, omega (arith, l .inv .0 .room), omega (arith, l .inv .0 .time, a .pre .0 .1), ap (values (a .args .steps .now)) (l .inv .1) ∙ a .pre .1 .2 (l .p) (omega arith) ∙ ap (instantSum (a .args .e .now) (l .p)) (sym (l .inv .0 .time)), l .inv .0 .small (nodeSlot (l .p)))
 
 enum-known-w : tie.Need-enum-known-w Inv-loop μ-loop
 enum-known-w c = search needs
@@ -53,20 +68,20 @@ enum-told c = search needs
 
 same-length : tie.Need-same-length Inv-loop μ-loop
 same-length c =
-    let a = c .before .before .before .before .before .before .before .before .before .before .before .before in
-    let l = c .before .before .before .before .before .before .before .before .loop in
+    let a = c .before .before .before .before .before .before .before .before .before .before .before .before .before .before in
+    let l = c .before .before .before .before .before .before .before .before .before .loop in
     let s = c .before .before .before .before .start-at in
-    s .ensures .1 .1 .long ∙ l .inv .long ∙ length-set (a .args .slots .now) 1 (a .args .u)
+    s .ensures .1 .1 .long ∙ l .inv .0 .long ∙ length-set (a .args .slots .now) 1 (a .args .u)
 
 same-length-2 : tie.Need-same-length-2 Inv-loop μ-loop
-same-length-2 c = search needs
+same-length-2 c = c .before .before .before .before .before .before .before .before .before .loop .inv .0 .behind .long
 
 returns : tie.Need-returns Inv-loop μ-loop
 returns c =
-    let a = c .before .before .before .before .before .before .before .before .before .before .before .before in
-    let l = c .before .before .before .before .before .before .before .before .loop in
+    let a = c .before .before .before .before .before .before .before .before .before .before .before .before .before .before in
+    let l = c .before .before .before .before .before .before .before .before .before .loop in
     let s = c .before .before .before .before .start-at in
-    (λ W f t g. going-past (a .args .e .now) (a .args .m) (a .args .u) _ _ (l .slots) (l .best) (l .p) (l .inv) (omega arith) (s .result) (s .ensures .0) (c .enum-told .given .1) W f t (first-set (a .args .e .now) (a .args .m) (a .args .u) (a .args .slots .now) W g), ((s .ensures .1 .1 .small, s .ensures .1 .1 .long ∙ l .inv .long ∙ length-set (a .args .slots .now) 1 (a .args .u)), (l .inv .low, l .inv .behind)))
+    (λ W f t g. going-past (a .args .e .now) (a .args .m) (a .args .u) _ _ (l .slots) (l .best) (l .p) (l .inv .0) (omega arith) (s .result) (s .ensures .0) (c .enum-told .given .1) W f t (first-set (a .args .e .now) (a .args .m) (a .args .u) (a .args .slots .now) W g), ((s .ensures .1 .1 .small, s .ensures .1 .1 .long ∙ l .inv .0 .long ∙ length-set (a .args .slots .now) 1 (a .args .u)), (l .inv .0 .low, l .inv .0 .behind)))
 
 add-slots : tie.Need-add-slots Inv-loop μ-loop
 add-slots c = search needs
@@ -79,9 +94,8 @@ slice-write-slots-2 c = search needs
 
 block-at-requires : tie.Need-block-at-requires Inv-loop μ-loop
 block-at-requires c κs =
-    let a = c .before .before .before .before .before .before .before .before .before .before .before .before .before in
-    let l = c .before .before .before .before .before .before .before .before .before .loop in
-    shaped-less (omega arith) (a .pre .0)
+    let l = c .before .before .before .before .before .before .before .before .before .before .loop in
+    shaped-less (omega arith) (c .before .before .before .before .before .before .before .before .before .before .before .before .before .before .before .pre .0 .0)
 
 add-add : tie.Need-add-add Inv-loop μ-loop
 add-add c = search needs
@@ -94,10 +108,10 @@ shared-slice-read-add c = search needs
 
 add-less : tie.Need-add-less Inv-loop μ-loop
 add-less c =
-    let a = c .before .before .before .before .before .before .before .before .before .before .before .before .before .before .before in
-    let l = c .before .before .before .before .before .before .before .before .before .before .before .loop in
+    let a = c .before .before .before .before .before .before .before .before .before .before .before .before .before .before .before .before .before in
+    let l = c .before .before .before .before .before .before .before .before .before .before .before .before .loop in
     let s = c .before .before .before .before .before .before .before .start-at in
-    omega (arith, a .pre .1, a .pre .0 .small (c .before .block-at .result + 1), begin-small (a .args .e .now) (a .args .m) (a .args .u) _ _ (l .slots) (l .best) (l .p) (l .inv) (omega arith) (s .result) (s .ensures .0) (s .ensures .1 .0) _ (c .before .before .before .w .given .1))
+    omega (arith, a .pre .0 .1, a .pre .0 .0 .small (c .before .block-at .result + 1), begin-small (a .args .e .now) (a .args .m) (a .args .u) _ _ (l .slots) (l .best) (l .p) (l .inv .0) (omega arith) (s .result) (s .ensures .0) (s .ensures .1 .0) _ (c .before .before .before .w .given .1))
 
 less-requires : tie.Need-less-requires Inv-loop μ-loop
 less-requires c κs = search needs
@@ -117,6 +131,20 @@ mul-best c = search needs
 slice-write-best : tie.Need-slice-write-best Inv-loop μ-loop
 slice-write-best c = search needs
 
+entries-in-requires : tie.Need-entries-in-requires Inv-loop μ-loop
+entries-in-requires c κs =
+    let l = c .before .before .before .before .before .before .before .before .before .before .before .before .before .before .before .loop in
+    shaped-less (omega (arith, c .before .before .before .before .before .before .before .before .before .before .before .before .before .before .loop-test .taken)) (c .before .before .before .before .before .before .before .before .before .before .before .before .before .before .before .before .before .before .before .before .pre .0 .0)
+
+add-at : tie.Need-add-at Inv-loop μ-loop
+add-at c = search needs
+
+add-at-2 : tie.Need-add-at-2 Inv-loop μ-loop
+add-at-2 c =
+    let a = c .before .before .before .before .before .before .before .before .before .before .before .before .before .before .before .before .before .before .before .before .before in
+    let l = c .before .before .before .before .before .before .before .before .before .before .before .before .before .before .before .before .loop in
+    omega (arith, c .entries-in .ensures .0, a .pre .1 .0, a .pre .1 .1, l .inv .1, steps-apart (a .args .e .now) (l .p) (a .args .m) (omega (arith, c .before .before .before .before .before .before .before .before .before .before .before .before .before .before .before .loop-test .taken)))
+
 add-p : tie.Need-add-p Inv-loop μ-loop
 add-p c = search needs
 
@@ -125,26 +153,26 @@ loop-less c = search needs
 
 loop-again : tie.Need-loop-again Inv-loop μ-loop
 loop-again c =
-    let a = c .before .before .before .before .before .before .before .before .before .before .before .before .before .before .before .before .before .before in
-    let l = c .before .before .before .before .before .before .before .before .before .before .before .before .before .before .loop in
-    let s = c .before .before .before .before .before .before .before .before .before .before .start-at in
-    let add = ap (λ x. values (a .args .e .now) (x + 1)) (c .before .before .before .before .block-at .ensures .0) in
-    going-more (a .args .e .now) (a .args .m) (a .args .u) _ _ (l .slots) (l .best) (l .p) (l .inv) (omega arith) (s .result) (s .ensures .0) (s .ensures .1 .0) _ (c .before .before .before .before .before .before .w .given .1) (s .last .1 .0) (s .ensures .1 .1) (c .greater .result) (omega arith) (a .pre .1)
+    let a = c .before .before .before .before .before .before .before .before .before .before .before .before .before .before .before .before .before .before .before .before .before in
+    let l = c .before .before .before .before .before .before .before .before .before .before .before .before .before .before .before .before .loop in
+    let s = c .before .before .before .before .before .before .before .before .before .before .before .start-at in
+    let add = ap (λ x. values (a .args .e .now) (x + 1)) (c .before .before .before .before .before .block-at .ensures .0) in
+    (going-more (a .args .e .now) (a .args .m) (a .args .u) _ _ (l .slots) (l .best) (l .p) (l .inv .0) (omega arith) (s .result) (s .ensures .0) (s .ensures .1 .0) _ (c .before .before .before .before .before .before .before .w .given .1) (s .last .1 .0) (s .ensures .1 .1) (c .before .greater .result) (omega arith) (a .pre .0 .1), omega (arith, l .inv .1, c .entries-in .ensures .0, steps-next (a .args .e .now) (l .p)))
 
 same-length-3 : tie.Need-same-length-3 Inv-loop μ-loop
 same-length-3 c =
-    let a = c .before .before .before .before .before in
+    let a = c .before .before .before .before .before .before in
     let l = c .before .loop in
-    l .inv .long ∙ length-set (a .args .slots .now) 1 (a .args .u)
+    l .inv .0 .long ∙ length-set (a .args .slots .now) 1 (a .args .u)
 
 same-length-4 : tie.Need-same-length-4 Inv-loop μ-loop
-same-length-4 c = search needs
+same-length-4 c = c .before .loop .inv .0 .behind .long
 
 returns-2 : tie.Need-returns-2 Inv-loop μ-loop
 returns-2 c =
-    let a = c .before .before .before .before .before in
+    let a = c .before .before .before .before .before .before in
     let l = c .before .loop in
-    (λ W f s g. going-end (a .args .e .now) (a .args .m) (a .args .u) _ _ (l .slots) (l .best) (l .p) (l .inv) (omega arith) W f s (first-set (a .args .e .now) (a .args .m) (a .args .u) (a .args .slots .now) W g), ((l .inv .small, l .inv .long ∙ length-set (a .args .slots .now) 1 (a .args .u)), (l .inv .low, l .inv .behind)))
+    (λ W f s g. going-end (a .args .e .now) (a .args .m) (a .args .u) _ _ (l .slots) (l .best) (l .p) (l .inv .0) (omega arith) W f s (first-set (a .args .e .now) (a .args .m) (a .args .u) (a .args .slots .now) W g), ((l .inv .0 .small, l .inv .0 .long ∙ length-set (a .args .slots .now) 1 (a .args .u)), (l .inv .0 .low, l .inv .0 .behind)))
 
 pub instant-spec : {M : Type 1} → statement M
 instant-spec =
@@ -157,6 +185,8 @@ instant-spec =
     add-from
     mul-from
     slice-read-from
+    mul-start-at
+    shared-slice-read-start-at
     start-at-requires
     enum-known-w
     enum-told
@@ -177,6 +207,9 @@ instant-spec =
     greater-requires
     mul-best
     slice-write-best
+    entries-in-requires
+    add-at
+    add-at-2
     add-p
     loop-less
     loop-again

@@ -1,10 +1,10 @@
 -- `starts::start_at` meets its contract.
 use Rattle.starts.proofs.Climb.{Climbs, kept-none, kept-set, climbs-more, climbs-at, climbs-past}
 use Rattle.starts.specs.Begins.{Kept}
-use Rattle.starts.specs.Sheet.{mostTime, instantSlot, added}
+use Rattle.starts.specs.Sheet.{mostTime, instantSlot, added, instantSum}
 use Rattle.least.specs.Lists.{values}
 use Prim.Native.Nat.{_+_, _-_, _<_}
-use mathlib.Core.Path.{_≡_, refl, ap}
+use mathlib.Core.Path.{_≡_, refl, sym, ap, _∙_}
 use borrow.Author.Needs.{needs}
 use native.Mathlib.Omega.{arith}
 use Rattle.starts.proofs.start_at.Statement.{statement}
@@ -15,10 +15,10 @@ use Rattle.starts.proofs.block_at.Reads as block-at-reads
 use Rattle.starts.proofs.sum_at.Reads as sum-at-reads
 
 abbrev Inv-loop : tie.InvT-loop
-Inv-loop e v₀ p from at add last w₀ v w = (add ≡ added e p) × (last ≡ mostTime + values v₀ instantSlot) × Kept v₀ v × Climbs e p v₀ from w × (w < 1152921504606846976)
+Inv-loop e v₀ p kept from at add last w₀ v w = (add ≡ added e p) × (last ≡ mostTime + values v₀ instantSlot) × Kept v₀ v × Climbs e p v₀ from w × (w < 2305843009213693952)
 
 abbrev μ-loop : tie.MeasureT-loop
-μ-loop e v₀ p from at add last w₀ v w = last + 1 - w
+μ-loop e v₀ p kept from at add last w₀ v w = last + 1 - w
 
 block-at-requires : tie.Need-block-at-requires Inv-loop μ-loop
 block-at-requires c κs = search needs
@@ -55,7 +55,8 @@ sum-at-requires : tie.Need-sum-at-requires Inv-loop μ-loop
 sum-at-requires c κs =
     let a = c .before .before .before .before .before .before .before .before in
     let l = c .before .before .loop in
-    (a .pre .0, kept-set (a .args .v .now) (l .v) (l .inv .2) (omega arith) (l .w) (omega arith) .small)
+    let k = kept-set (a .args .v .now) (l .v) (l .inv .2) (omega arith) (l .w) (omega arith) in
+    (a .pre .0, k .small, a .pre .4 ∙ ap (instantSum (a .args .e .now) (a .args .p)) (sym (k .others instantSlot (λ z. omega arith))))
 
 same-length : tie.Need-same-length Inv-loop μ-loop
 same-length c = search needs
