@@ -21,7 +21,7 @@ extern "C" {
 #endif
 
 /* Bytes of stack for a thread that calls: room for a call, and at least 64 KiB for what else the thread does. */
-#define KEZHUVANAM_STACK (512 * 1024)
+#define KEZHUVANAM_STACK (128 * 1024)
 
 /* 0 if the plan is accepted. Otherwise why not:
 
