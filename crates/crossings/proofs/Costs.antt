@@ -1,20 +1,23 @@
--- The cost at a node by its place. Assumes nothing.
-use mathlib.Core.Path.{_≡_, refl, ap, sym, _∙_}
+-- The cost at a node by its place, and the slowest cost on a path, one node more at a time. Assumes nothing.
+use mathlib.Core.Path.{_≡_, refl, ap, ap₂, sym, _∙_}
 use mathlib.Core.Bool.{Bool, true, false}
-use mathlib.Core.List.{List, [], _∷_}
-use Prim.Native.Nat.{ℕ, _≤_, _<_, max}
+use mathlib.Core.List.{List, [], _∷_, _++_}
+use Prim.Native.Nat.{ℕ, zero, suc, _≤_, _<_, max}
 use native.Mathlib.Omega.{arith}
 use lib.Dec.{eqb}
-use lib.ListN.{length, getD, List·getD-eq-default}
-use borrow.Author.Tests.{eqb-true}
+use lib.ListN.{length, getD, take, List·getD-eq-default}
+use borrow.Author.Tests.{eq-eqb, ne-eqb, eqb-true, eqb-false}
 use Rattle.least.specs.Count.{pick}
-use Rattle.least.specs.Fold.{maxOf, anyOf}
+use Rattle.least.specs.Fold.{maxOf, maxTo, anyOf}
+use Rattle.least.specs.Lists.{listTo}
 use Rattle.least.proofs.Fold.{false-true}
+use Rattle.least.proofs.Ranges.{max-to-ext}
 use Rattle.rules.specs.Net.{Hop}
-use Rattle.rules.specs.Formula.{visits, before, there, costAt}
+use Rattle.rules.specs.Formula.{visits, before, there, costAt, slowest}
 use Rattle.rules.specs.Valid.{Distinct}
 use Rattle.nets.specs.Nets.{lengthIn, hopIn, pathIn, noHop, positionOf}
-use Rattle.nets.proofs.Reading.{path-length, path-at}
+use Rattle.nets.proofs.Reading.{path-length, path-at, path-front}
+use Rattle.nets.proofs.Places.{own-place}
 use Rattle.crossings.specs.Pairs.{placeOn, costOn}
 
 module _ (h : ℕ) where
@@ -27,7 +30,7 @@ module _ (h : ℕ) where
       go true e ih = false-true (sym e)
       go false e ih = omega (arith, ih e)
 
-  pub cost-position : (l : List Hop) → Distinct l → getD l (positionOf h l) noHop .cost ≡ costAt l h
+  cost-position : (l : List Hop) → Distinct l → getD l (positionOf h l) noHop .cost ≡ costAt l h
   unfolding before there maxOf
   cost-position [] d = refl
   cost-position (k ∷ l) d = go (eqb (k .node) h) refl (cost-position l (d .1))
@@ -40,6 +43,58 @@ module _ (h : ℕ) where
 pub cost-on : (net : List ℕ) (a b k : ℕ) → Distinct (pathIn net b) → costOn net a b k ≡ costAt (pathIn net b) (hopIn net a k .node)
 unfolding costOn placeOn
 cost-on net a b k d = cost-position (hopIn net a k .node) (pathIn net b) d
+
+-- the slowest cost: no node, one more
+slowest-none : (l : List Hop) → slowest [] l ≡ 0
+unfolding slowest maxOf visits anyOf
+slowest-none [] = refl
+slowest-none (x ∷ l) = omega (arith, slowest-none l)
+
+module _ (k : Hop) where
+  visits-snoc : (P : List Hop) (x : ℕ) → visits (P ++ (k ∷ [])) x ≡ pick (visits P x) true (eqb x (k .node))
+  unfolding visits anyOf
+  visits-snoc [] x = go (eqb x (k .node)) refl
+    where
+      go : (b : Bool) → eqb x (k .node) ≡ b → pick (eqb (k .node) x) true false ≡ b
+      go true e = rw (eq-eqb (k .node) x (sym (eqb-true x (k .node) e)))
+      go false e = rw (ne-eqb (k .node) x (λ q. eqb-false x (k .node) e (sym q)))
+  visits-snoc (q ∷ P) x = go (visits-snoc P x) (eqb (q .node) x)
+    where
+      go : visits (P ++ (k ∷ [])) x ≡ pick (visits P x) true (eqb x (k .node)) → (b : Bool) →
+          pick b true (visits (P ++ (k ∷ [])) x) ≡ pick (pick b true (visits P x)) true (eqb x (k .node))
+      go ih true = refl
+      go ih false = ih
+
+  slowest-snoc : (P l : List Hop) → slowest (P ++ (k ∷ [])) l ≡ max (slowest P l) (costAt l (k .node))
+  unfolding slowest there maxOf
+  slowest-snoc P [] = refl
+  slowest-snoc P (x ∷ l) = rw (visits-snoc P (x .node)) (go (visits P (x .node)) (eqb (x .node) (k .node)) _ _ _ (slowest-snoc P l))
+    where
+      go : (b c : Bool) (u v w : ℕ) → u ≡ max v w → max (pick (pick b true c) (x .cost) 0) u ≡ max (max (pick b (x .cost) 0) v) (max (pick c (x .cost) 0) w)
+      go true true u v w h = omega arith
+      go true false u v w h = omega arith
+      go false true u v w h = omega arith
+      go false false u v w h = omega arith
+
+-- on the first p nodes of a's path
+pub slowest-to : (net : List ℕ) (a b : ℕ) → Distinct (pathIn net b) → (p : ℕ) → p ≤ lengthIn net a →
+    slowest (take p (pathIn net a)) (pathIn net b) ≡ maxTo p (costOn net a b)
+unfolding listTo maxTo
+slowest-to net a b d p h = ap (λ P. slowest P (pathIn net b)) (path-front net a p h) ∙ go p
+  where
+    go : (m : ℕ) → slowest (listTo (hopIn net a) m) (pathIn net b) ≡ maxTo m (costOn net a b)
+    go zero = slowest-none (pathIn net b)
+    go (suc m) = slowest-snoc (hopIn net a m) (listTo (hopIn net a) m) (pathIn net b) ∙ ap₂ max (go m) (sym (cost-on net a b m d))
+
+-- of a flow's own path
+module _ (net : List ℕ) (a : ℕ) (d : Distinct (pathIn net a)) where
+  pub own-cost : (k : ℕ) → k < lengthIn net a → costAt (pathIn net a) (hopIn net a k .node) ≡ hopIn net a k .cost
+  own-cost k h =
+      sym (cost-position (hopIn net a k .node) (pathIn net a) d) ∙ ap (λ n. getD (pathIn net a) n noHop .cost) (own-place net a d k h)
+      ∙ ap (λ (q : Hop). q .cost) (path-at net a k h)
+
+  pub own-slowest : (p : ℕ) → p ≤ lengthIn net a → slowest (take p (pathIn net a)) (pathIn net a) ≡ maxTo p (λ k. hopIn net a k .cost)
+  own-slowest p h = slowest-to net a a d p h ∙ max-to-ext p _ _ (λ k i. cost-on net a a k d ∙ own-cost k (omega arith))
 
 -- the cost as it is read: p is the place, n how many nodes b has
 module _ (net : List ℕ) (a b k p n : ℕ) (e : p ≡ placeOn net a b k) (len : n ≡ lengthIn net b) where

@@ -115,7 +115,7 @@ module _ (net bytes : List ℕ) (a b : ℕ) (q : Noted net bytes a b) (at : ℕ)
 
     pub read-turn : (r : ℕ) → r ≡ values bytes (at + w + 2) → (p : ℕ) → p < lengthIn net a →
         eqb (firstOn (pathIn net b) (take (p + 1) (pathIn net a))) (firstOn (take (p + 1) (pathIn net a)) (pathIn net b)) ≡ ltb p r
-    read-turn r s p h = along-turn net a b _ _ (noted .first) (noted .turn) p h ∙ ap (ltb p) (mark 2 r s)
+    read-turn r s p h = along-turn net a b p h _ (noted .first) _ (noted .turn) ∙ ap (ltb p) (mark 2 r s)
 
 -- b is higher or equal and runs along, by the number that says what it is
 module _ (net : List ℕ) (a b p s : ℕ) (e : s ≡ sideNumber (role (flowIn net a) (flowIn net b))) where

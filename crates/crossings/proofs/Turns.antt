@@ -1,4 +1,4 @@
--- How far one path runs along another. Assumes nothing.
+-- The first node that two paths share, on the one and on the other, and how far one runs along the other. Assumes nothing.
 use mathlib.Core.Path.{_≡_, refl, sym, ap, _∙_}
 use mathlib.Core.Bool.{Bool, true, false}
 use mathlib.Core.Logic.{inl, inr}
@@ -14,8 +14,8 @@ use Rattle.least.specs.Lists.{First}
 use Rattle.least.proofs.Count.{le-or-lt}
 use Rattle.rules.specs.Net.{Hop}
 use Rattle.rules.specs.Formula.{visits, firstOn}
-use Rattle.nets.specs.Nets.{lengthIn, pathIn, noHop, positionOf}
-use Rattle.nets.proofs.Reading.{path-length}
+use Rattle.nets.specs.Nets.{lengthIn, hopIn, pathIn, noHop, positionOf}
+use Rattle.nets.proofs.Reading.{path-length, path-at}
 use Rattle.nets.proofs.Places.{visits-at, position-below, position-node}
 use Rattle.crossings.specs.Pairs.{placeOn}
 use Rattle.crossings.proofs.Meeting.{visits-below, position-first, place-is}
@@ -57,9 +57,8 @@ meet-least (k ∷ a) b (suc j) h v = go (visits b (k .node)) (meet-least a b j (
 meet-none : (a b : List Hop) → length a ≤ meetAt a b → firstOn a b ≡ 0
 meet-none a b h = first-node a b ∙ ap (λ (q : Hop). q .node) (List·getD-eq-default a noHop {n = meetAt a b} h)
 
--- place k is the position on b of the node at place k of l; f is the first that is on b, t the first before that one's; P the prefix at place p
-module _ (l b : List Hop) (place : ℕ → ℕ) (is : (k : ℕ) → k < length l → place k ≡ positionOf (getD l k noHop .node) b) (f t : ℕ)
-    (first : First place (length l) (length b) f) (turn : First place (length l) (pick (ltb f (length l)) (place f) 0) t) (p : ℕ) (h : p < length l) where
+-- place k is the position on b of the node at place k of l; P the prefix at place p
+module _ (l b : List Hop) (place : ℕ → ℕ) (is : (k : ℕ) → k < length l → place k ≡ positionOf (getD l k noHop .node) b) (p : ℕ) (h : p < length l) where
   abbrev P : List Hop
   P = take (p + 1) l
 
@@ -75,12 +74,14 @@ module _ (l b : List Hop) (place : ℕ → ℕ) (is : (k : ℕ) → k < length l
   on-P : (k : ℕ) → k ≤ p → visits P (node k) ≡ true
   on-P k i = ap (visits P) (sym (at k i)) ∙ visits-at P k (omega (arith, long))
 
+  on-b : (k : ℕ) → k ≤ p → place k < length b → visits b (node k) ≡ true
+  on-b k i q = visits-below b (node k) (omega (arith, is k (omega arith)))
+
   -- on b, the first node that P has: none before it is at a place of P's nodes, and it is at one
   below : (k : ℕ) → k ≤ p → place k < length b → meetAt b P ≤ place k
   below k i q =
-      let e = is k (omega arith) in
-      let z : positionOf (node k) b < length b = omega arith in
-      meet-least b P (place k) q (ap (λ j. visits P (getD b j noHop .node)) e ∙ ap (visits P) (position-node b (node k) (visits-below b (node k) z)) ∙ on-P k i)
+      meet-least b P (place k) q
+      (ap (λ j. visits P (getD b j noHop .node)) (is k (omega arith)) ∙ ap (visits P) (position-node b (node k) (on-b k i q)) ∙ on-P k i)
 
   reached : meetAt b P < length b → (k : ℕ) × (k ≤ p) × (place k ≤ meetAt b P)
   reached q =
@@ -90,89 +91,105 @@ module _ (l b : List Hop) (place : ℕ → ℕ) (is : (k : ℕ) → k < length l
       let i : k ≤ p = omega (arith, position-below P n v, long) in
       (k, i, omega (arith, is k (omega arith), ap (λ x. positionOf x b) (sym (at k i) ∙ position-node P n v), position-first b n (meetAt b P) q refl))
 
+  -- it is the one whose place is the least
+  first-of-b : (g : ℕ) → g ≤ p → place g < length b → ((k : ℕ) → k ≤ p → place g ≤ place k) → firstOn b P ≡ node g
+  first-of-b g i q least =
+      let r = reached (omega (arith, below g i q)) in
+      let e : meetAt b P ≡ positionOf (node g) b = omega (arith, below g i q, least (r .0) (r .1), is g (omega arith)) in
+      first-node b P ∙ ap (λ j. getD b j noHop .node) e ∙ position-node b (node g) (on-b g i q)
+
   -- on P, the first node that b has
   shared : (k : ℕ) → k ≤ p → visits b (getD P k noHop .node) ≡ true → place k < length b
   shared k i v = omega (arith, is k (omega arith), ap (λ x. positionOf x b) (at k i), position-below b (getD P k noHop .node) v)
 
-  -- where P shares nothing with b
-  module _ (q : p < f) where
-    turn-later : p < t
-    turn-later = elim (le-or-lt t p) [ inl r ↦ absurd (go r (ltb f (length l)) refl (turn .found (omega arith))) | inr r ↦ r ]
-      where
-        go : t ≤ p → (s : Bool) → ltb f (length l) ≡ s → place t < pick s (place f) 0 → ⊥
-        go r true e z = omega (arith, first .found (ltb-true f (length l) e), first .before t (omega arith))
-        go r false e z = omega arith
+  -- f is the first place that is on b
+  module _ (f : ℕ) (first : First place (length l) (length b) f) where
+    found : f ≤ p → place f < length b
+    found q = first .found (omega arith)
 
-    none-of-b : length b ≤ meetAt b P
-    none-of-b = elim (le-or-lt (length b) (meetAt b P)) [
+    first-of-P : f ≤ p → firstOn P b ≡ node f
+    first-of-P q = first-node P b ∙ ap (λ j. getD P j noHop .node) here ∙ at f q
+      where
+        here : meetAt P b ≡ f
+        here = elim (le-or-lt f (meetAt P b)) [
+          | inl r ↦ omega (arith, meet-least P b f (omega (arith, long)) (ap (visits b) (at f q) ∙ on-b f q (found q)))
+          | inr r ↦ (
+              let i : meetAt P b ≤ p = omega arith in
+              absurd (omega (arith, first .before (meetAt P b) r, shared (meetAt P b) i (meet-visited P b (omega (arith, long))))))
+        ]
+
+    none-of-b : p < f → length b ≤ meetAt b P
+    none-of-b q = elim (le-or-lt (length b) (meetAt b P)) [
       | inl r ↦ r
       | inr r ↦ (let g = reached r in absurd (omega (arith, first .before (g .0) (omega arith))))
     ]
 
-    none-of-P : length P ≤ meetAt P b
-    none-of-P = elim (le-or-lt (length P) (meetAt P b)) [
+    none-of-P : p < f → length P ≤ meetAt P b
+    none-of-P q = elim (le-or-lt (length P) (meetAt P b)) [
       | inl r ↦ r
       | inr r ↦ (
           let i : meetAt P b ≤ p = omega (arith, long) in
           absurd (omega (arith, first .before (meetAt P b) (omega arith), shared (meetAt P b) i (meet-visited P b r))))
     ]
 
-    apart : eqb (firstOn b P) (firstOn P b) ≡ ltb p t
-    apart = eq-eqb _ _ (meet-none b P none-of-b ∙ sym (meet-none P b none-of-P)) ∙ sym (lt-ltb p t turn-later)
+    -- t is the first that is before that one's
+    module _ (t : ℕ) (turn : First place (length l) (pick (ltb f (length l)) (place f) 0) t) where
+      turn-later : p < f → p < t
+      turn-later q = elim (le-or-lt t p) [ inl r ↦ absurd (go r (ltb f (length l)) refl (turn .found (omega arith))) | inr r ↦ r ]
+        where
+          go : t ≤ p → (s : Bool) → ltb f (length l) ≡ s → place t < pick s (place f) 0 → ⊥
+          go r true e z = omega (arith, first .found (ltb-true f (length l) e), first .before t (omega arith))
+          go r false e z = omega arith
 
-  -- where it shares the node at place f first
-  module _ (q : f ≤ p) where
-    found : place f < length b
-    found = first .found (omega arith)
+      -- where P shares nothing with b
+      apart : p < f → eqb (firstOn b P) (firstOn P b) ≡ ltb p t
+      apart q = eq-eqb _ _ (meet-none b P (none-of-b q) ∙ sym (meet-none P b (none-of-P q))) ∙ sym (lt-ltb p t (turn-later q))
 
-    here : place f ≡ positionOf (node f) b
-    here = is f (omega arith)
+      -- where it shares the node at place f first
+      module _ (q : f ≤ p) where
+        bound : pick (ltb f (length l)) (place f) 0 ≡ place f
+        bound = rw (lt-ltb f (length l) (omega arith))
 
-    on-b : visits b (node f) ≡ true
-    on-b = visits-below b (node f) (omega (arith, found, here))
+        same : p < t → firstOn b P ≡ node f
+        same z = first-of-b f q (found q) (λ k i. omega (arith, bound, turn .before k (omega arith)))
 
-    bound : pick (ltb f (length l)) (place f) 0 ≡ place f
-    bound = rw (lt-ltb f (length l) (omega arith))
+        other : t ≤ p → firstOn b P ≡ node f → ⊥
+        other z e =
+            let u : place t < place f = omega (arith, bound, turn .found (omega arith)) in
+            let v : meetAt b P ≤ place t = below t z (omega (arith, found q)) in
+            omega (arith, is f (omega arith), position-first b (node f) (meetAt b P) (omega (arith, found q)) (sym (first-node b P) ∙ e))
 
-    first-is : meetAt P b ≡ f
-    first-is = elim (le-or-lt f (meetAt P b)) [
-      | inl r ↦ omega (arith, meet-least P b f (omega (arith, long)) (ap (visits b) (at f q) ∙ on-b))
-      | inr r ↦ (
-          let i : meetAt P b ≤ p = omega arith in
-          absurd (omega (arith, first .before (meetAt P b) r, shared (meetAt P b) i (meet-visited P b (omega (arith, long))))))
-    ]
+        together : eqb (firstOn b P) (firstOn P b) ≡ ltb p t
+        together = elim (le-or-lt t p) [
+          | inl z ↦ ne-eqb _ _ (λ e. other z (e ∙ first-of-P q)) ∙ sym (le-ltb p t z)
+          | inr z ↦ eq-eqb _ _ (same z ∙ sym (first-of-P q)) ∙ sym (lt-ltb p t z)
+        ]
 
-    of-P : firstOn P b ≡ node f
-    of-P = first-node P b ∙ ap (λ j. getD P j noHop .node) first-is ∙ at f q
+      turn-along : eqb (firstOn b P) (firstOn P b) ≡ ltb p t
+      turn-along = elim (le-or-lt f p) [ inl q ↦ together q | inr q ↦ apart q ]
 
-    least : meetAt b P ≤ place f
-    least = below f q found
+-- the same of two flows of a set, at place p of a's path
+module _ (net : List ℕ) (a b p : ℕ) (h : p < lengthIn net a) where
+  on : p < length (pathIn net a)
+  on = omega (arith, path-length net a)
 
-    same : p < t → firstOn b P ≡ node f
-    same z =
-        let g = reached (omega (arith, least, found)) in
-        let e : meetAt b P ≡ positionOf (node f) b = omega (arith, least, here, bound, turn .before (g .0) (omega arith)) in
-        first-node b P ∙ ap (λ j. getD b j noHop .node) e ∙ position-node b (node f) on-b
+  node-at : (k : ℕ) → k ≤ p → getD (pathIn net a) k noHop .node ≡ hopIn net a k .node
+  node-at k i = ap (λ (q : Hop). q .node) (path-at net a k (omega arith))
 
-    other : t ≤ p → firstOn b P ≡ node f → ⊥
-    other z e =
-        let u : place t < place f = omega (arith, bound, turn .found (omega arith)) in
-        let v : meetAt b P ≤ place t = below t z (omega (arith, found)) in
-        omega (arith, here, position-first b (node f) (meetAt b P) (omega (arith, found)) (sym (first-node b P) ∙ e))
+  pub least-shared : (g : ℕ) → g ≤ p → placeOn net a b g < lengthIn net b → ((k : ℕ) → k ≤ p → placeOn net a b g ≤ placeOn net a b k) →
+      firstOn (pathIn net b) (take (p + 1) (pathIn net a)) ≡ hopIn net a g .node
+  least-shared g i q least =
+      first-of-b (pathIn net a) (pathIn net b) (placeOn net a b) (place-is net a b) p on g i (omega (arith, path-length net b)) least ∙ node-at g i
 
-    together : eqb (firstOn b P) (firstOn P b) ≡ ltb p t
-    together = elim (le-or-lt t p) [
-      | inl z ↦ ne-eqb _ _ (λ e. other z (e ∙ of-P)) ∙ sym (le-ltb p t z)
-      | inr z ↦ eq-eqb _ _ (same z ∙ sym of-P) ∙ sym (lt-ltb p t z)
-    ]
+  module _ (f : ℕ) (first : First (placeOn net a b) (lengthIn net a) (lengthIn net b) f) where
+    first′ : First (placeOn net a b) (length (pathIn net a)) (length (pathIn net b)) f
+    first′ = rw (path-length net a, path-length net b) first
 
-  pub turn-along : eqb (firstOn b P) (firstOn P b) ≡ ltb p t
-  turn-along = elim (le-or-lt f p) [ inl q ↦ together q | inr q ↦ apart q ]
+    pub first-shared : f ≤ p → firstOn (take (p + 1) (pathIn net a)) (pathIn net b) ≡ hopIn net a f .node
+    first-shared q = first-of-P (pathIn net a) (pathIn net b) (placeOn net a b) (place-is net a b) p on f first′ q ∙ node-at f q
 
--- b runs along a on the prefix at place p exactly if p stands before the turn
-pub along-turn : (net : List ℕ) (a b f t : ℕ) → First (placeOn net a b) (lengthIn net a) (lengthIn net b) f →
-    First (placeOn net a b) (lengthIn net a) (pick (ltb f (lengthIn net a)) (placeOn net a b f) 0) t → (p : ℕ) → p < lengthIn net a →
-    eqb (firstOn (pathIn net b) (take (p + 1) (pathIn net a))) (firstOn (take (p + 1) (pathIn net a)) (pathIn net b)) ≡ ltb p t
-along-turn net a b f t first turn p h =
-    turn-along (pathIn net a) (pathIn net b) (placeOn net a b) (place-is net a b) f t (rw (path-length net a, path-length net b) first)
-    (rw (path-length net a) turn) p (rw (path-length net a) h)
+    -- b runs along a on the prefix exactly if p stands before the turn
+    pub along-turn : (t : ℕ) → First (placeOn net a b) (lengthIn net a) (pick (ltb f (lengthIn net a)) (placeOn net a b f) 0) t →
+        eqb (firstOn (pathIn net b) (take (p + 1) (pathIn net a))) (firstOn (take (p + 1) (pathIn net a)) (pathIn net b)) ≡ ltb p t
+    along-turn t turn =
+        turn-along (pathIn net a) (pathIn net b) (placeOn net a b) (place-is net a b) p on f first′ t (rw (path-length net a) turn)

@@ -3,12 +3,11 @@
 use mathlib.Core.Path.{_≡_}
 use mathlib.Core.Bool.{Bool}
 use mathlib.Core.List.{List}
-use Prim.Native.Nat.{ℕ, _+_, _*_, _≤_, _<_}
+use Prim.Native.Nat.{ℕ, _+_, _*_, _<_}
 use lib.Dec.{ltb, eqb}
 use lib.ListN.{length, getD, take}
 use Rattle.least.specs.Count.{pick}
 use Rattle.least.specs.Lists.{values, First}
-use Rattle.rules.specs.Net.{Hop}
 use Rattle.rules.specs.Formula.{Role, Own, Higher, Equal, Lower, role, both, higherOrEqual, firstOn}
 use Rattle.nets.specs.Nets.{countIn, roomIn, lengthIn, hopIn, pathIn, flowIn, noHop, positionOf}
 

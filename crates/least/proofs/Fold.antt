@@ -26,11 +26,6 @@ module _ {A : Type 0} where
   sum-le f g [] h = omega arith
   sum-le f g (x ∷ xs) h = omega (arith, h x (List·Memᴰ·head refl), sum-le f g xs (λ y m. h y (List·Memᴰ·tail m)))
 
-  pub sum-lt : (f g : A → ℕ) {y : A} {l : List A} → ((x : A) → List·Memᴰ x l → f x ≤ g x) → List·Memᴰ y l → f y < g y → sumOf f l < sumOf g l
-  unfolding sumOf
-  sum-lt f g h (List·Memᴰ·head {x = x} {xs = xs} e) q = omega (arith, ap f e, ap g e, sum-le f g xs (λ z m. h z (List·Memᴰ·tail m)))
-  sum-lt f g h (List·Memᴰ·tail {x = x} {xs = xs} m) q = omega (arith, h x (List·Memᴰ·head refl), sum-lt f g (λ z n. h z (List·Memᴰ·tail n)) m q)
-
   pub sum-tight : (f g : A → ℕ) (l : List A) → ((x : A) → List·Memᴰ x l → f x ≤ g x) → sumOf g l ≤ sumOf f l → (x : A) → List·Memᴰ x l → g x ≤ f x
   unfolding sumOf
   sum-tight f g (y ∷ l) h t x (List·Memᴰ·head e) = omega (arith, h y (List·Memᴰ·head refl), ap f e, ap g e, sum-le f g l (λ z m. h z (List·Memᴰ·tail m)))
@@ -105,21 +100,6 @@ module _ {A : Type 0} where
   max-sublist f (Sublistᴰ·cons-cons e s) = omega (arith, ap f e, max-sublist f s)
 
   -- the least
-  pub min-le : {d d′ : ℕ} (f g : A → ℕ) (l : List A) → d ≤ d′ → ((x : A) → List·Memᴰ x l → f x ≤ g x) → minOf d f l ≤ minOf d′ g l
-  unfolding minOf
-  min-le f g [] q h = q
-  min-le f g (x ∷ xs) q h = omega (arith, h x (List·Memᴰ·head refl), min-le f g xs q (λ y m. h y (List·Memᴰ·tail m)))
-
-  pub min-at : (d : ℕ) (f : A → ℕ) {x : A} {l : List A} → List·Memᴰ x l → minOf d f l ≤ f x
-  unfolding minOf
-  min-at d f (List·Memᴰ·head e) = omega (arith, ap f e)
-  min-at d f (List·Memᴰ·tail m) = omega (arith, min-at d f m)
-
-  pub min-default : (d : ℕ) (f : A → ℕ) (l : List A) → minOf d f l ≤ d
-  unfolding minOf
-  min-default d f [] = omega arith
-  min-default d f (x ∷ xs) = omega (arith, min-default d f xs)
-
   pub min-sublist : (d : ℕ) (f : A → ℕ) {l m : List A} → Sublistᴰ l m → minOf d f m ≤ minOf d f l
   unfolding minOf
   min-sublist d f Sublistᴰ·slnil = omega arith
@@ -153,6 +133,11 @@ module _ {A : Type 0} where
           (x : A) × List·Memᴰ x (y ∷ l) × (p x ≡ true)
       go ih true q e = (y, List·Memᴰ·head refl, q)
       go ih false q e = (let r = ih e in (r .0, List·Memᴰ·tail (r .1), r .2))
+
+  pub any-none : (p : A → Bool) (l : List A) (d : A) → ((k : ℕ) → k < length l → p (getD l k d) ≡ false) → anyOf p l ≡ false
+  unfolding anyOf
+  any-none p [] d h = refl
+  any-none p (x ∷ l) d h = rw (h 0 (omega arith)) (any-none p l d (λ k i. h (suc k) (omega arith)))
 
 -- over the numbers below n
 pub sum-to-le : (n : ℕ) (f g : ℕ → ℕ) → ((j : ℕ) → j < n → f j ≤ g j) → sumTo n f ≤ sumTo n g

@@ -3,7 +3,6 @@ pub mod Count
 pub mod Whole
 pub mod Fold
 pub mod Lists
-pub mod Totals
 pub mod Ranges
 pub mod Fixed
 pub mod Vector

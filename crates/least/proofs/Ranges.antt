@@ -1,7 +1,7 @@
 -- Sums, greatest and least values over the numbers below n, one number more at a time, and over the list of a function's values there. Assumes nothing.
 use mathlib.Core.Path.{_≡_, refl, ap, _∙_}
 use mathlib.Core.Logic.{inl, inr}
-use mathlib.Core.List.{List, [], _∷_, _++_, map, List·Memᴰ, List·Memᴰ·head, Memᴰ·append-left, Memᴰ·append-right, List·Memᴰ·append-cases, List·Memᴰ·eq-of-singleton, List·Memᴰ·not-nil}
+use mathlib.Core.List.{List, [], _∷_, _++_, map, List·Memᴰ, List·Memᴰ·head, Memᴰ·append-left, Memᴰ·append-right}
 use Prim.Native.Nat.{ℕ, zero, suc, _+_, _≤_, _<_, max, min}
 use native.Mathlib.Numerals.{add-one}
 use native.Mathlib.Omega.{arith}
@@ -22,6 +22,9 @@ module _ (f : ℕ → ℕ) (n : ℕ) where
   pub max-to-more : maxTo (n + 1) f ≡ max (maxTo n f) (f n)
   unfolding maxTo
   max-to-more = rw (add-one n, maxTo)
+
+  pub max-to-next : {x c r : ℕ} → x ≡ maxTo n f → c ≡ f n → r ≡ max x c → r ≡ maxTo (n + 1) f
+  max-to-next h e g = omega (arith, max-to-more)
 
   pub min-to-more : (d : ℕ) → minTo d (n + 1) f ≡ min (minTo d n f) (f n)
   unfolding minTo
@@ -79,12 +82,4 @@ module _ {A : Type 0} where
     listed-member (suc n) k h = elim (le-or-lt n k) [
       | inl q ↦ (let e : n ≡ k = omega arith in rw (← e) (Memᴰ·append-right (listTo f n) (List·Memᴰ·head refl)))
       | inr q ↦ Memᴰ·append-left (f n ∷ []) (listed-member n k q)
-    ]
-
-    pub member-listed : (n : ℕ) {x : A} → List·Memᴰ x (listTo f n) → (k : ℕ) × (k < n) × (x ≡ f k)
-    unfolding listTo
-    member-listed zero m = absurd (List·Memᴰ·not-nil m)
-    member-listed (suc n) m = elim (List·Memᴰ·append-cases (listTo f n) m) [
-      | inl p ↦ (let r = member-listed n p in (r .0, omega arith, r .2))
-      | inr p ↦ (n, omega arith, List·Memᴰ·eq-of-singleton p)
     ]

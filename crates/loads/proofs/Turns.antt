@@ -3,22 +3,21 @@ use mathlib.Core.Path.{_≡_, sym, ap, ap₂, _∙_, subst}
 use mathlib.Core.Bool.{Bool, false}
 use mathlib.Core.Logic.{inl, inr}
 use mathlib.Core.List.{List}
-use Prim.Native.Nat.{ℕ, _+_, _-_, _*_, _/_, _≤_, _<_, max}
-use native.Mathlib.Numerals.{add-one}
+use Prim.Native.Nat.{ℕ, _+_, _-_, _*_, _/_, _≤_, _<_}
 use native.Mathlib.Nat.{div-zero, mul-le-mul, mul-le-mul-left}
 use native.Mathlib.Omega.{arith}
 use lib.ListN.{length, set}
 use lib.Seq.{getD-set-same, getD-set-other}
 use borrow.Author.Tests.{le-leb, lt-leb}
 use Rattle.least.specs.Count.{pick, ceil}
-use Rattle.least.specs.Fold.{sumTo}
+use Rattle.least.specs.Fold.{sumTo, maxTo}
 use Rattle.least.proofs.Count.{ceil-le, le-or-lt}
-use Rattle.least.proofs.Totals.{sum-to-more}
+use Rattle.least.proofs.Ranges.{sum-to-more}
 use Rattle.rules.specs.Formula.{Role, Own, Higher, Equal, Lower, role, lower}
 use Rattle.rules.specs.Judge.{returns}
 use Rattle.nets.specs.Nets.{countIn, fieldIn, lengthIn, pathIn, flowIn}
 use Rattle.crossings.specs.Pairs.{costOn, sideNumber}
-use Rattle.loads.specs.Load.{slowestTo, slowestOn, weightIn, Weighed, packetsIn, loadBy, straysIn}
+use Rattle.loads.specs.Load.{slowestOn, weightIn, Weighed, packetsIn, loadBy, straysIn}
 
 module _ (x t : ℕ) where
   pub ceil-none : t ≡ 0 → 0 ≡ ceil x t
@@ -35,17 +34,13 @@ module _ (x t : ℕ) where
 
 -- b's slowest cost on a's path
 module _ (net : List ℕ) (a b : ℕ) where
-  pub slowest-start : 0 ≡ slowestTo net a b 0
-  unfolding slowestTo
+  pub slowest-start : 0 ≡ maxTo 0 (costOn net a b)
+  unfolding maxTo
   slowest-start = omega arith
 
-  module _ (k most : ℕ) (inv : most ≡ slowestTo net a b k) where
-    pub slowest-more : (x r : ℕ) → x ≡ costOn net a b k → r ≡ max most x → r ≡ slowestTo net a b (k + 1)
-    unfolding slowestTo
-    slowest-more x r p q = rw (add-one k) (omega arith)
-
+  module _ (k most : ℕ) (inv : most ≡ maxTo k (costOn net a b)) where
     pub slowest-end : (m : ℕ) → m ≡ lengthIn net a → k ≤ m → m ≤ k → most ≡ slowestOn net a b
-    slowest-end m len p q = let e : k ≡ lengthIn net a = omega arith in inv ∙ ap (slowestTo net a b) e
+    slowest-end m len p q = let e : k ≡ lengthIn net a = omega arith in inv ∙ ap (λ n. maxTo n (costOn net a b)) e
 
   -- the weight, by what b is to a
   module _ (s : ℕ) (e : s ≡ sideNumber (role (flowIn net a) (flowIn net b))) where
@@ -108,7 +103,7 @@ module _ (net : List ℕ) (w : ℕ → ℕ) (x : ℕ) where
 
   module _ (b sum : ℕ) (inv : sum ≡ sumTo b (packetsIn net w x)) where
     pub load-more : (t c s : ℕ) → t ≡ fieldIn net b 2 → c ≡ ceil x t → s ≡ w b → sum + c * s ≡ sumTo (b + 1) (packetsIn net w x)
-    load-more t c s p q r = sum-to-more (packetsIn net w x) b sum (c * s) inv (ap₂ (λ u v. u * v) (q ∙ ap (ceil x) p) r)
+    load-more t c s p q r = ap₂ (λ u v. u + v) inv (ap₂ (λ u v. u * v) (q ∙ ap (ceil x) p) r) ∙ sym (sum-to-more (packetsIn net w x) b)
 
     pub load-end : (n : ℕ) → n ≡ countIn net → b ≤ n → n ≤ b → sum ≡ loadBy net w x
     unfolding loadBy

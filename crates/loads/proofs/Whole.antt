@@ -1,35 +1,26 @@
 -- The load and the crossing test, by place, are the rules'. Assumes nothing.
-use mathlib.Core.Path.{_≡_, refl, sym, ap, _∙_, subst}
+use mathlib.Core.Path.{_≡_, refl, sym, ap, _∙_}
 use mathlib.Core.Bool.{Bool, true, false}
-use mathlib.Core.List.{List, [], _∷_, List·Memᴰ}
-use Prim.Native.Nat.{ℕ, zero, suc, _+_, _*_, _≤_, _<_}
+use mathlib.Core.List.{List}
+use Prim.Native.Nat.{ℕ, _+_, _*_, _≤_, _<_}
 use native.Mathlib.Omega.{arith}
 use lib.Dec.{leb, ltb, eqb}
-use lib.ListN.{length, getD}
+use lib.ListN.{getD}
+use lib.Seq.{take-all}
 use borrow.Author.Tests.{eq-eqb, ne-eqb}
 use Rattle.least.specs.Count.{pick, ceil}
 use Rattle.least.specs.Fold.{sumTo, sumOf}
-use Rattle.least.proofs.Fold.{sum-ext, sum-map, sum-to-ext, sum-to-add, sum-to-one, sum-to-list, any-at}
-use Rattle.least.proofs.Totals.{any-none}
+use Rattle.least.proofs.Fold.{sum-ext, sum-map, sum-to-ext, sum-to-add, sum-to-one, sum-to-list, any-at, any-none}
 use Rattle.rules.specs.Net.{Flow}
 use Rattle.rules.specs.Formula.{Own, Higher, Equal, Lower, both, role, higherOrEqual, lower, crossings, slowest, weight, ownWeight, load}
 use Rattle.rules.specs.Judge.{returns, misplaced}
-use Rattle.rules.specs.Valid.{RisingNumbers, Valid}
+use Rattle.rules.specs.Valid.{Distinct, Valid}
 use Rattle.rules.proofs.Shared.{slowest-shared}
-use Rattle.nets.specs.Nets.{countIn, fieldIn, pathIn, flowIn, flowsIn, netIn, noFlow}
-use Rattle.nets.proofs.Reading.{flows-length, flow-at}
-use Rattle.nets.proofs.Places.{member-at}
-use Rattle.loads.specs.Load.{weightIn, packetsIn, loadBy, straysIn}
-use Rattle.loads.proofs.Slowest.{slowest-on}
-
--- where numbers rise, one number is one place
-one-place : (l : List Flow) → RisingNumbers l → (a b : ℕ) → a < length l → b < length l →
-    getD l a noFlow .number ≡ getD l b noFlow .number → a ≡ b
-one-place [] r a b p q e = absurd (omega arith)
-one-place (i ∷ l) r zero zero p q e = refl
-one-place (i ∷ l) r zero (suc b) p q e = absurd (omega (arith, r .0 (getD l b noFlow) (member-at l b noFlow (omega arith))))
-one-place (i ∷ l) r (suc a) zero p q e = absurd (omega (arith, r .0 (getD l a noFlow) (member-at l a noFlow (omega arith))))
-one-place (i ∷ l) r (suc a) (suc b) p q e = ap suc (one-place l (r .1) a b (omega arith) (omega arith) e)
+use Rattle.nets.specs.Nets.{countIn, lengthIn, fieldIn, pathIn, flowIn, flowsIn, netIn, noFlow}
+use Rattle.nets.proofs.Reading.{path-length, flows-length, flow-at}
+use Rattle.nets.proofs.Sets.{flow-in, distinct-in, one-place}
+use Rattle.crossings.proofs.Costs.{slowest-to}
+use Rattle.loads.specs.Load.{slowestOn, weightIn, packetsIn, loadBy, straysIn}
 
 -- what a flow brings: as another, and as the flow itself
 both-parts : (i j : Flow) (c s : ℕ) →
@@ -46,9 +37,6 @@ both-parts i j c s = go (eqb (i .number) (j .number)) (ltb (i .priority) (j .pri
     go false false false = omega arith
 
 module _ (net : List ℕ) where
-  member : (b : ℕ) → b < countIn net → List·Memᴰ (flowIn net b) (flowsIn net)
-  member b h = subst (λ f. List·Memᴰ f (flowsIn net)) (flow-at net b h) (member-at (flowsIn net) b noFlow (omega (arith, flows-length net)))
-
   -- over the flows of the set
   sum-flows : (f : Flow → ℕ) → sumTo (countIn net) (λ b. f (flowIn net b)) ≡ sumOf f (flowsIn net)
   sum-flows f =
@@ -68,6 +56,11 @@ module _ (net : List ℕ) where
         (λ j m. ap (λ c. pick (higherOrEqual (role (flowIn net a) j)) (ceil x (j .period) * c) 0)
         (sym (slowest-shared (pathIn net a) (pathIn net a) (λ n q. q) (j .path))))
         ∙ sym (sum-map _ _ (flowsIn net))
+
+    slowest-on : (b : ℕ) → Distinct (pathIn net b) → slowestOn net a b ≡ slowest (pathIn net a) (pathIn net b)
+    slowest-on b d =
+        sym (slowest-to net a b d (lengthIn net a) (omega arith))
+        ∙ ap (λ P. slowest P (pathIn net b)) (take-all (lengthIn net a) (pathIn net a) (omega (arith, path-length net a)))
 
     module _ (on : a < countIn net) (v : Valid (netIn net)) where
       own : (x : ℕ) → sumTo (countIn net) (λ b. pick (eqb (fieldIn net a 0) (fieldIn net b 0)) (takes x (flowIn net b)) 0) ≡ takes x (flowIn net a)
@@ -97,14 +90,14 @@ module _ (net : List ℕ) where
               + pick (eqb (fieldIn net a 0) (fieldIn net b 0)) (takes x (flowIn net b)) 0
           parts b h =
               ap (λ s. ceil x (fieldIn net b 2) * pick (lower (role (flowIn net a) (flowIn net b))) 0 s)
-              (slowest-on net a b (v .flows (flowIn net b) (member b h) .distinct))
+              (slowest-on b (distinct-in net v b h))
               ∙ both-parts (flowIn net a) (flowIn net b) (ceil x (fieldIn net b 2)) (slowest (pathIn net a) (pathIn net b))
 
     -- the crossing test; n is how many flows there are, as the code has it
     module _ (n : ℕ) (len : n ≡ countIn net) (b : ℕ) where
       pub strays-found : b < n → (x : Bool) → x ≡ straysIn net a b → x ≡ true → true ≡ misplaced (netIn net) (flowIn net a)
       unfolding misplaced straysIn
-      strays-found h x e t = sym (any-at _ (member b (omega arith)) (sym e ∙ t))
+      strays-found h x e t = sym (any-at _ (flow-in net b (omega arith)) (sym e ∙ t))
 
       pub strays-none : n ≤ b → ((k : ℕ) → k < b → straysIn net a k ≡ false) → false ≡ misplaced (netIn net) (flowIn net a)
       unfolding misplaced straysIn

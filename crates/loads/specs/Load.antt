@@ -2,23 +2,19 @@
 use mathlib.Core.Path.{_≡_}
 use mathlib.Core.Bool.{Bool}
 use mathlib.Core.List.{List}
-use Prim.Native.Nat.{ℕ, zero, suc, _*_, _≤_, _<_, max, min}
+use Prim.Native.Nat.{ℕ, _*_, _≤_, _<_, max, min}
 use lib.Dec.{leb}
 use Rattle.least.specs.Count.{pick, ceil}
-use Rattle.least.specs.Fold.{sumTo}
+use Rattle.least.specs.Fold.{sumTo, maxTo}
 use Rattle.least.specs.Lists.{values}
 use Rattle.rules.specs.Formula.{both, role, lower}
 use Rattle.rules.specs.Judge.{returns}
 use Rattle.nets.specs.Nets.{countIn, fieldIn, lengthIn, pathIn, flowIn}
 use Rattle.crossings.specs.Pairs.{costOn}
 
--- b's slowest cost on the first m nodes of a's path, and on the whole
-unfoldable pub slowestTo : List ℕ → ℕ → ℕ → ℕ → ℕ
-slowestTo net a b zero = 0
-slowestTo net a b (suc m) = max (slowestTo net a b m) (costOn net a b m)
-
+-- b's slowest cost on a's path
 abbrev pub slowestOn : List ℕ → ℕ → ℕ → ℕ
-slowestOn net a b = slowestTo net a b (lengthIn net a)
+slowestOn net a b = maxTo (lengthIn net a) (costOn net a b)
 
 -- the weight of b's packets in a's busy length
 unfoldable pub weightIn : List ℕ → ℕ → ℕ → ℕ

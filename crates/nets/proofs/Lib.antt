@@ -1,3 +1,4 @@
 -- The laws of `nets`.
 pub mod Reading
 pub mod Places
+pub mod Sets

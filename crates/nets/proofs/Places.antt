@@ -8,7 +8,7 @@ use native.Mathlib.Numerals.{add-one}
 use native.Mathlib.Omega.{arith}
 use lib.Dec.{eqb}
 use lib.ListN.{length, getD, take, drop}
-use borrow.Author.Tests.{eq-eqb, ne-eqb, eqb-true}
+use borrow.Author.Tests.{eq-eqb, ne-eqb, eqb-true, eqb-false}
 use Rattle.least.specs.Count.{pick}
 use Rattle.least.proofs.Fold.{false-true}
 use Rattle.least.proofs.Lists.{drop-next, drop-past}
@@ -75,6 +75,19 @@ position-at (x ∷ l) d (suc k) h = go (eqb (x .node) n) refl (position-at l (d 
     go : (b : Bool) → eqb (x .node) n ≡ b → positionOf n l ≡ k → length (pick b [] (x ∷ before n l)) ≡ suc k
     go true e ih = false-true (sym (d .0) ∙ ap (visits l) (eqb-true (x .node) n e) ∙ visits-at l k (omega arith))
     go false e ih = ap suc ih
+
+-- of a flow's own path
+module _ (net : List ℕ) (a : ℕ) (d : Distinct (pathIn net a)) where
+  pub own-place : (k : ℕ) → k < lengthIn net a → positionOf (hopIn net a k .node) (pathIn net a) ≡ k
+  own-place k h =
+      ap (λ (q : Hop). positionOf (q .node) (pathIn net a)) (sym (path-at net a k h)) ∙ position-at (pathIn net a) d k (omega (arith, path-length net a))
+
+  pub own-same : (k p : ℕ) → k < lengthIn net a → p < lengthIn net a → eqb (hopIn net a k .node) (hopIn net a p .node) ≡ eqb k p
+  own-same k p i j = go (eqb k p) refl
+    where
+      go : (t : Bool) → eqb k p ≡ t → eqb (hopIn net a k .node) (hopIn net a p .node) ≡ t
+      go true e = eq-eqb _ _ (ap (λ q. hopIn net a q .node) (eqb-true k p e))
+      go false e = ne-eqb _ _ (λ q. eqb-false k p e (sym (own-place k i) ∙ ap (λ n. positionOf n (pathIn net a)) q ∙ own-place p j))
 
 -- the prefix at a node
 pub prefix-take : (h : ℕ) (l : List Hop) → prefix h l ≡ take (suc (positionOf h l)) l

@@ -1,9 +1,11 @@
 -- What is read of the numbers: paths and flows by place. Assumes nothing.
 use mathlib.Core.Path.{_≡_}
 use mathlib.Core.List.{List}
-use Prim.Native.Nat.{ℕ, _<_}
-use lib.ListN.{length, getD}
+use Prim.Native.Nat.{ℕ, _≤_, _<_}
+use lib.ListN.{length, getD, take}
+use Rattle.least.specs.Lists.{listTo}
 use Rattle.least.proofs.Lists.{length-to, at-to}
+use Rattle.least.proofs.Ranges.{take-listed}
 use Rattle.nets.specs.Nets.{countIn, lengthIn, hopIn, pathIn, flowIn, flowsIn, netIn, noHop, noFlow, flowAt}
 
 module _ (net : List ℕ) where
@@ -14,6 +16,10 @@ module _ (net : List ℕ) where
   pub path-at : (a k : ℕ) → k < lengthIn net a → getD (pathIn net a) k noHop ≡ hopIn net a k
   unfolding pathIn
   path-at a k h = at-to (hopIn net a) (lengthIn net a) k noHop h
+
+  pub path-front : (a n : ℕ) → n ≤ lengthIn net a → take n (pathIn net a) ≡ listTo (hopIn net a) n
+  unfolding pathIn
+  path-front a n h = take-listed (hopIn net a) n (lengthIn net a) h
 
   pub flows-length : length (flowsIn net) ≡ countIn net
   unfolding flowsIn

@@ -6,9 +6,9 @@ use mathlib.Core.List.{List, [], _∷_, List·Memᴰ}
 use Prim.Native.Nat.{ℕ, zero, suc, _+_, _*_, _≤_, _<_}
 use native.Mathlib.Omega.{arith}
 use native.Mathlib.Nat.{add-zero, mul-zero, le-refl}
-use lib.Dec.{ltb, eqb}
+use lib.Dec.{eqb}
 use lib.ListN.{length, getD}
-use borrow.Author.Tests.{eq-eqb, eqb-true, ne-eqb}
+use borrow.Author.Tests.{ne-eqb}
 use Rattle.least.specs.Count.{pick, count}
 use Rattle.least.specs.Fold.{sumTo, sumOf, anyOf}
 use Rattle.least.proofs.Count.{le-or-lt}
@@ -19,9 +19,10 @@ use Rattle.rules.specs.Valid.{Valid}
 use Rattle.rules.proofs.Path.{prefix-visits, visits-here, visits-there, visits-member, visits-hop}
 use Rattle.rules.proofs.Shared.{shared, slowest-shared, first-of-shared, first-on-shared, last-on-shared, uncrossed-nothing}
 use Rattle.nets.specs.Nets.{noFlow, flowAt, positionOf}
+use Rattle.nets.proofs.Sets.{flow-here, one-place, one-flow, own-role, own-number}
 use Rattle.starts.specs.Sheet.{hereSlot, instantSlot, nodeSlot, entriesIn, entryAt, termOf, seen}
-use Rattle.sheets.specs.Fields.{Entry, noEntry, termBy, arrivalBy, entryOf, counted, entriesTo, EntryIs, Listed, placeIn, responsesIn}
-use Rattle.sheets.proofs.Places.{flow-here, place-at, one-flow, arrival-is}
+use Rattle.sheets.specs.Fields.{Entry, noEntry, termBy, arrivalBy, entryOf, counted, entriesTo, EntryIs, Listed, responsesIn}
+use Rattle.sheets.proofs.Places.{arrival-is}
 
 -- flows that meet: the first node of one on the other is on both
 pub first-visited : (a b : List Hop) → crosses b a ≡ true → (visits a (firstOn a b) ≡ true) × (visits b (firstOn a b) ≡ true)
@@ -55,20 +56,6 @@ isOwn Own = true
 isOwn Higher = false
 isOwn Equal = false
 isOwn Lower = false
-
-own-role : (i : Flow) → role i i ≡ Own
-unfolding role
-own-role i = rw (eq-eqb (i .number) (i .number) refl)
-
-own-number : (i j : Flow) → role i j ≡ Own → i .number ≡ j .number
-unfolding role
-own-number i j q = go (eqb (i .number) (j .number)) refl (ltb (i .priority) (j .priority)) (eqb (i .priority) (j .priority)) (ap isOwn q)
-  where
-    go : (s : Bool) → eqb (i .number) (j .number) ≡ s → (t v : Bool) → isOwn (pick s Own (pick t Higher (pick v Equal Lower))) ≡ true → i .number ≡ j .number
-    go true e t v o = eqb-true (i .number) (j .number) e
-    go false e true v o = false-true o
-    go false e false true o = false-true o
-    go false e false false o = false-true o
 
 no-weight : (v : ℕ → ℕ) (x : Entry) → x .weight ≡ 0 → termBy v x ≡ 0
 unfolding termBy
@@ -218,13 +205,13 @@ module _ (N : Net) (val : Valid N) (w : ℕ) (r : ℕ → ℕ) (a : ℕ) (here :
     others-are = sum-map _ _ (N .flows)
 
     own-once : sumTo (length (N .flows)) (λ b. pick (isOwn (role i (flowAt N b))) after 0) ≡ after
-    own-once = sum-to-one (length (N .flows)) a _ here not-own ∙ rw (own-role i)
+    own-once = sum-to-one (length (N .flows)) a _ here not-own ∙ rw (own-role i i refl)
       where
         not-own : (b : ℕ) → b < length (N .flows) → (b ≡ a → ⊥) → pick (isOwn (role i (flowAt N b))) after 0 ≡ 0
         not-own b l ne = go (role i (flowAt N b)) refl
           where
             go : (ρ : Role) → role i (flowAt N b) ≡ ρ → pick (isOwn ρ) after 0 ≡ 0
-            go Own q = absurd (ne (sym (place-at (N .flows) (val .rising) b l) ∙ ap (λ n. placeIn n (N .flows)) (sym (own-number i (flowAt N b) q)) ∙ place-at (N .flows) (val .rising) a here))
+            go Own q = absurd (ne (one-place (N .flows) (val .rising) b a l here (sym (own-number i (flowAt N b) q))))
             go Higher q = refl
             go Equal q = refl
             go Lower q = refl

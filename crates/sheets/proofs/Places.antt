@@ -2,7 +2,7 @@
 use mathlib.Core.Path.{_≡_, refl, sym, ap, _∙_, subst}
 use mathlib.Core.Bool.{Bool, true, false}
 use mathlib.Core.Logic.{inl, inr}
-use mathlib.Core.List.{List, [], _∷_, List·Memᴰ, List·Memᴰ·head, List·Memᴰ·tail}
+use mathlib.Core.List.{List, [], _∷_, List·Memᴰ}
 use Prim.Native.Nat.{ℕ, zero, suc, _+_, _-_, _*_, _≤_, _<_}
 use native.Mathlib.Omega.{arith}
 use native.Mathlib.Nat.{le-refl}
@@ -18,12 +18,10 @@ use Rattle.rules.specs.Valid.{RisingNumbers, Valid}
 use Rattle.rules.proofs.Path.{visits-cases}
 use Rattle.nets.specs.Nets.{noHop, noFlow, flowAt, positionOf}
 use Rattle.nets.proofs.Places.{member-at, position-below, position-at}
+pub use Rattle.nets.proofs.Sets.{flow-here, one-flow}
 use Rattle.sheets.specs.Fields.{arrivalBy, placeIn, responsesIn}
 
-pub flow-here : (N : Net) (a : ℕ) → a < length (N .flows) → List·Memᴰ (flowAt N a) (N .flows)
-flow-here N a h = member-at (N .flows) a noFlow h
-
--- where numbers rise, a flow's place is found by its number, and one number is one flow
+-- where numbers rise, a flow's place is found by its number
 pub place-at : (l : List Flow) → RisingNumbers l → (a : ℕ) → a < length l → placeIn (getD l a noFlow .number) l ≡ a
 unfolding placeIn
 place-at [] r a h = absurd (omega arith)
@@ -31,12 +29,6 @@ place-at (i ∷ l) r zero h = rw (eq-eqb (i .number) (i .number) refl)
 place-at (i ∷ l) r (suc a) h =
     rw (ne-eqb (i .number) (getD l a noFlow .number) (λ e. omega (arith, r .0 (getD l a noFlow) (member-at l a noFlow (omega arith)))))
     (ap suc (place-at l (r .1) a (omega arith)))
-
-pub one-flow : (l : List Flow) → RisingNumbers l → (i j : Flow) → List·Memᴰ i l → List·Memᴰ j l → i .number ≡ j .number → i ≡ j
-one-flow (k ∷ l) r i j (List·Memᴰ·head p) (List·Memᴰ·head q) e = p ∙ sym q
-one-flow (k ∷ l) r i j (List·Memᴰ·head p) (List·Memᴰ·tail q) e = absurd (omega (arith, ap (λ f. f .number) p, r .0 j q))
-one-flow (k ∷ l) r i j (List·Memᴰ·tail p) (List·Memᴰ·head q) e = absurd (omega (arith, ap (λ f. f .number) q, r .0 i p))
-one-flow (k ∷ l) r i j (List·Memᴰ·tail p) (List·Memᴰ·tail q) e = one-flow l (r .1) i j p q e
 
 -- the arrival bounds of a flow of the set
 pub arrivals-of : (N : Net) → RisingNumbers (N .flows) → (R : Flow → ℕ → ℕ) (i : Flow) → List·Memᴰ i (N .flows) → (h : ℕ) →

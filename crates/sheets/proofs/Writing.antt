@@ -3,7 +3,7 @@ use mathlib.Core.Path.{_≡_, refl, sym, ap, ap₂, _∙_, subst}
 use mathlib.Core.Bool.{Bool, true, false, not}
 use mathlib.Core.Logic.{inl, inr}
 use mathlib.Core.List.{List, [], _∷_, _++_}
-use Prim.Native.Nat.{ℕ, zero, suc, _+_, _-_, _*_, _≤_, _<_, max}
+use Prim.Native.Nat.{ℕ, zero, suc, _+_, _-_, _*_, _≤_, _<_}
 use native.Mathlib.Numerals.{add-one}
 use native.Mathlib.Nat.{mul-le-mul}
 use native.Mathlib.Omega.{arith}
@@ -11,6 +11,7 @@ use lib.Dec.{ltb, eqb}
 use lib.ListN.{length, getD, take, List·getD-eq-default}
 use borrow.Author.Tests.{eq-eqb, ne-eqb, lt-ltb, le-ltb, ltb-true, ltb-false}
 use Rattle.least.specs.Count.{pick}
+use Rattle.least.specs.Fold.{maxTo}
 use Rattle.least.specs.Lists.{values, First}
 use Rattle.least.proofs.Count.{le-or-lt}
 use Rattle.rules.specs.Net.{Hop, Flow, Net}
@@ -18,8 +19,8 @@ use Rattle.rules.specs.Formula.{Role, Own, Higher, Equal, Lower, both, role, lo
 use Rattle.rules.specs.Valid.{Valid}
 use Rattle.nets.specs.Nets.{few, countIn, roomIn, lengthIn, fieldIn, hopIn, pathIn, flowIn, netIn, noHop, flowAt, nodeAt}
 use Rattle.nets.proofs.Reading.{path-length, path-at, flows-length, flow-at}
-use Rattle.nets.proofs.Places.{before-length}
 use Rattle.crossings.specs.Pairs.{placeOn, costOn, sideNumber}
+use Rattle.crossings.proofs.Noting.{place-most}
 use Rattle.ways.specs.Ways.{baseOf, sminTo, wayTo}
 use Rattle.starts.specs.Sheet.{hereSlot, instantSlot, nodeSlot, Shaped}
 use Rattle.sheets.specs.Fields.{Entry, upTo, entryOf, counted, entriesTo, Listed, SheetIs}
@@ -77,10 +78,6 @@ pub record Shared (net : List ℕ) (a b f : ℕ) (T : ℕ → ℕ) (p x : ℕ) :
 
 -- f is the first place that they share
 module _ (net : List ℕ) (a b f : ℕ) (first : First (placeOn net a b) (lengthIn net a) (lengthIn net b) f) where
-  place-most : (k : ℕ) → placeOn net a b k ≤ lengthIn net b
-  unfolding placeOn
-  place-most k = omega (arith, before-length (hopIn net a k .node) (pathIn net b), path-length net b)
-
   pub shared-first : (T : ℕ → ℕ) → f < lengthIn net a → Shared net a b f T f f
   shared-first T h = record { from = λ e. refl; is = λ i. absurd (omega arith); on = h; passes = first .found h }
 
@@ -104,7 +101,7 @@ module _ (net : List ℕ) (a b f : ℕ) (first : First (placeOn net a b) (length
   near-none zero i = refl
   near-none (suc k) i =
       rw (near-none k (omega arith))
-      (sym (pick-above (placeOn net a b k) (placeOn net a b 0) k 0 (omega (arith, place-most 0, first .before k (omega arith)))))
+      (sym (pick-above (placeOn net a b k) (placeOn net a b 0) k 0 (omega (arith, place-most net a b 0, first .before k (omega arith)))))
 
   near-first : f < lengthIn net a → f ≡ nearTo net a b (suc f)
   unfolding nearTo
@@ -161,33 +158,25 @@ module _ (net : List ℕ) (a b f : ℕ) (first : First (placeOn net a b) (length
 
   -- b's cost is 0 before
   pub weight-none : (k : ℕ) → k ≤ f → weightTo net a b k ≡ 0
-  unfolding weightTo costOn
+  unfolding maxTo costOn
   weight-none zero i = refl
   weight-none (suc k) i =
       let z : getD (pathIn net b) (placeOn net a b k) noHop ≡ noHop =
       List·getD-eq-default (pathIn net b) noHop {n = placeOn net a b k} (omega (arith, path-length net b, first .before k (omega arith))) in
       omega (arith, weight-none k (omega arith), ap (λ (q : Hop). q .cost) z)
 
-pub weight-next : (net : List ℕ) (a b p : ℕ) {x y : ℕ} → x ≡ weightTo net a b p → y ≡ max x (costOn net a b p) → y ≡ weightTo net a b (suc p)
-unfolding weightTo
-weight-next net a b p e f = omega arith
-
-pub own-next : (net : List ℕ) (a p : ℕ) {x y c : ℕ} → x ≡ ownTo net a p → c ≡ hopIn net a p .cost → y ≡ max x c → y ≡ ownTo net a (suc p)
-unfolding ownTo
-own-next net a p e f g = omega arith
-
 -- the entry at place p
 entry-same : {l l′ p p′ m m′ t t′ w w′ : ℕ} → l ≡ l′ → p ≡ p′ → m ≡ m′ → t ≡ t′ → w ≡ w′ → entryFrom l p m t w ≡ entryFrom l′ p′ m′ t′ w′
 entry-same e f g h i = cc
 
-module _ (net : List ℕ) (a p : ℕ) {t w : ℕ} (period : t ≡ fieldIn net a 2) (weight : w ≡ ownTo net a (suc p)) where
+module _ (net : List ℕ) (a p : ℕ) {t w : ℕ} (period : t ≡ fieldIn net a 2) (weight : w ≡ ownTo net a (p + 1)) where
   pub own-made : entryFrom instantSlot 0 t t w ≡ ownAt net a p
   unfolding ownAt
   own-made = entry-same refl refl period period weight
 
 module _ (net : List ℕ) (a b : ℕ) (r : ℕ → ℕ) (f p : ℕ) {plus way smin t w x : ℕ}
     (plus-is : plus ≡ fieldIn net b 3 + arrivalAt net r b (placeOn net a b f))
-    (smin-is : smin ≡ sminTo (netIn net) (flowIn net b) (placeOn net a b x)) (period : t ≡ fieldIn net b 2) (weight : w ≡ weightTo net a b (suc p)) where
+    (smin-is : smin ≡ sminTo (netIn net) (flowIn net b) (placeOn net a b x)) (period : t ≡ fieldIn net b 2) (weight : w ≡ weightTo net a b (p + 1)) where
   pub higher-made : {look : ℕ} → x ≡ lastTo net a b (suc p) → look ≡ pick (eqb x p) hereSlot (nodeSlot x) → way ≡ wayTo (netIn net) (flowIn net a) f →
       entryFrom look plus (way + smin) t w ≡ higherAt net a b r f p
   unfolding higherAt

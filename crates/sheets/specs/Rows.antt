@@ -1,8 +1,9 @@
 -- The entries of a flow b on the sheet of a flow a by place, one place of a's path after the other. Proofs/Running shows that they are the rules'.
 use mathlib.Core.List.{List}
-use Prim.Native.Nat.{ℕ, zero, suc, _+_, _-_, _*_, max}
+use Prim.Native.Nat.{ℕ, zero, suc, _+_, _-_, _*_}
 use lib.Dec.{ltb, eqb}
 use Rattle.least.specs.Count.{pick}
+use Rattle.least.specs.Fold.{maxTo}
 use Rattle.least.specs.Lists.{values}
 use Rattle.nets.specs.Nets.{roomIn, lengthIn, fieldIn, hopIn, flowIn, netIn}
 use Rattle.crossings.specs.Pairs.{placeOn, costOn}
@@ -24,9 +25,8 @@ module _ (net : List ℕ) (a b : ℕ) where
   nearTo zero = 0
   nearTo (suc p) = pick (ltb (placeOn net a b p) (placeOn net a b (nearTo p))) p (nearTo p)
 
-  unfoldable pub weightTo : ℕ → ℕ
-  weightTo zero = 0
-  weightTo (suc p) = max (weightTo p) (costOn net a b p)
+  abbrev pub weightTo : ℕ → ℕ
+  weightTo p = maxTo p (costOn net a b)
 
   -- the entry at place p of a higher flow, of an equal one, whose first place shared is f, and of a itself
   unfoldable pub higherAt : (ℕ → ℕ) → ℕ → ℕ → Entry
@@ -35,7 +35,7 @@ module _ (net : List ℕ) (a b : ℕ) where
     plus = fieldIn net b 3 + arrivalAt net r b (placeOn net a b f);
     less = wayTo (netIn net) (flowIn net a) f + sminTo (netIn net) (flowIn net b) (placeOn net a b (lastTo (suc p)));
     period = fieldIn net b 2;
-    weight = weightTo (suc p);
+    weight = weightTo (p + 1);
   }
 
   unfoldable pub equalAt : (ℕ → ℕ) → ℕ → ℕ → Entry
@@ -44,12 +44,11 @@ module _ (net : List ℕ) (a b : ℕ) where
     plus = fieldIn net b 3 + arrivalAt net r b (placeOn net a b f) + arrivalAt net r a (nearTo (suc p));
     less = fieldIn net a 3 + wayTo (netIn net) (flowIn net a) f + sminTo (netIn net) (flowIn net b) (placeOn net a b (nearTo (suc p)));
     period = fieldIn net b 2;
-    weight = weightTo (suc p);
+    weight = weightTo (p + 1);
   }
 
-unfoldable pub ownTo : List ℕ → ℕ → ℕ → ℕ
-ownTo net a zero = 0
-ownTo net a (suc p) = max (ownTo net a p) (hopIn net a p .cost)
+abbrev pub ownTo : List ℕ → ℕ → ℕ → ℕ
+ownTo net a p = maxTo p (λ k. hopIn net a k .cost)
 
 unfoldable pub ownAt : List ℕ → ℕ → ℕ → Entry
-ownAt net a p = record { look = instantSlot; plus = 0; less = fieldIn net a 2; period = fieldIn net a 2; weight = ownTo net a (suc p) }
+ownAt net a p = record { look = instantSlot; plus = 0; less = fieldIn net a 2; period = fieldIn net a 2; weight = ownTo net a (p + 1) }

@@ -1,31 +1,33 @@
 -- What is read of whole paths by place is, for a valid set, what the rules take of the nodes shared with a's path. Assumes nothing.
-use mathlib.Core.Path.{_≡_, refl, sym, ap, ap₂, subst, _∙_}
-use mathlib.Core.Bool.{Bool, true, false}
+use mathlib.Core.Path.{_≡_, sym, ap, ap₂, _∙_}
+use mathlib.Core.Bool.{true}
 use mathlib.Core.Logic.{inl, inr}
 use mathlib.Core.List.{List, [], _∷_, List·Memᴰ, List·Memᴰ·head, List·Memᴰ·tail}
 use Prim.Native.Nat.{ℕ, zero, suc, _+_, _-_, _*_, _≤_, _<_, max}
+use native.Mathlib.Numerals.{add-one}
 use native.Mathlib.Omega.{arith}
 use lib.Dec.{eqb}
 use lib.ListN.{length, getD, take, length-take}
 use lib.Seq.{take-all}
-use borrow.Author.Tests.{eq-eqb, ne-eqb, eqb-true, eqb-false, lt-ltb, le-ltb}
+use borrow.Author.Tests.{eq-eqb, ne-eqb, lt-ltb, le-ltb}
 use Rattle.least.specs.Count.{pick}
-use Rattle.least.specs.Fold.{sumOf, maxOf, minOf, maxTo, minTo, only}
+use Rattle.least.specs.Fold.{sumOf, maxOf, minOf, maxTo, minTo}
 use Rattle.least.specs.Lists.{listTo}
 use Rattle.least.proofs.Count.{le-or-lt}
-use Rattle.least.proofs.Fold.{max-under, max-map, sum-to-ext}
+use Rattle.least.proofs.Fold.{max-map, sum-to-ext}
 use Rattle.least.proofs.Lists.{length-to, at-to}
-use Rattle.least.proofs.Ranges.{max-to-ext, min-to-ext, min-map, sum-listed, max-listed, min-listed, take-listed, listed-member, member-listed}
+use Rattle.least.proofs.Ranges.{max-to-ext, min-to-ext, min-map, sum-listed, max-listed, min-listed, listed-member}
 use Rattle.rules.specs.Net.{Hop}
 use Rattle.rules.specs.Formula.{Crossing, both, role, higherOrEqual, lower, visits, costAt, crossings, runsAlong, along, leastCost, slowest, earliest, slowestNode, greatestCost, lowerCost, term4, term5, term6}
-use Rattle.rules.specs.Valid.{Distinct, Valid}
-use Rattle.rules.proofs.Path.{visits-member, visits-hop, slowest-at}
+use Rattle.rules.specs.Valid.{Valid}
+use Rattle.rules.proofs.Path.{visits-member, visits-hop}
 use Rattle.rules.proofs.Shared.{shared, visits-shared, there-shared, first-of-shared, first-on-shared}
-use Rattle.nets.specs.Nets.{countIn, lengthIn, hopIn, pathIn, flowIn, flowsIn, netIn, noHop, positionOf}
-use Rattle.nets.proofs.Reading.{path-length, path-at}
-use Rattle.nets.proofs.Places.{position-at}
+use Rattle.nets.specs.Nets.{countIn, lengthIn, hopIn, pathIn, flowIn, flowsIn, netIn, noHop}
+use Rattle.nets.proofs.Reading.{path-length, path-front}
+use Rattle.nets.proofs.Places.{own-same}
+use Rattle.nets.proofs.Sets.{distinct-in}
 use Rattle.crossings.specs.Pairs.{costOn, alongTo}
-use Rattle.crossings.proofs.Costs.{cost-position, cost-on}
+use Rattle.crossings.proofs.Costs.{cost-on, own-cost, own-slowest}
 use Rattle.ways.specs.Ways.{baseOf, sminTo, wayTo}
 use Rattle.ways.specs.Whole.{leastBy, greatestBy, lowerBy, leastOver, greatestOver, lowerOver, slowerOf, slowestTo, term4By, term4Over, term5Over, baseOver, sminOver, wayOver}
 
@@ -49,11 +51,6 @@ visits-part : (n : ℕ) (l : List Hop) (h : ℕ) → visits (take n l) h ≡ tru
 visits-part n l h v = let r = visits-hop (take n l) h v in sym (ap (visits l) (r .2)) ∙ visits-take n l (r .0) (r .1)
 
 module _ (net : List ℕ) where
-  -- no node is twice on a path of a valid set
-  valid-distinct : Valid (netIn net) → (b : ℕ) → b < countIn net → Distinct (pathIn net b)
-  unfolding flowsIn
-  valid-distinct v b h = v .flows (flowIn net b) (listed-member (flowIn net) (countIn net) b h) .distinct
-
   module _ (a : ℕ) where
     abbrev crossing : ℕ → Crossing
     crossing b = record { flow = flowIn net b; part = shared (pathIn net a) (pathIn net b) }
@@ -65,10 +62,6 @@ module _ (net : List ℕ) where
     min-crossings : (d : ℕ) (f : Crossing → ℕ) → minOf d f (crossings (netIn net) (flowIn net a)) ≡ minTo d (countIn net) (λ b. f (crossing b))
     unfolding crossings flowsIn
     min-crossings d f = min-map d f _ (flowsIn net) ∙ min-listed (flowIn net) d _ (countIn net)
-
-    front : (n : ℕ) → n ≤ lengthIn net a → take n (pathIn net a) ≡ listTo (hopIn net a) n
-    unfolding pathIn
-    front n h = take-listed (hopIn net a) n (lengthIn net a) h
 
     visits-place : (k : ℕ) → k < lengthIn net a → visits (pathIn net a) (hopIn net a k .node) ≡ true
     unfolding pathIn
@@ -87,7 +80,7 @@ module _ (net : List ℕ) where
 
     pub smin-whole : (k : ℕ) → k ≤ lengthIn net a → sminOver net a k ≡ sminTo (netIn net) (flowIn net a) k
     unfolding sminOver
-    smin-whole k h = sym (ap (sumOf _) (front k h) ∙ sum-listed (hopIn net a) _ k)
+    smin-whole k h = sym (ap (sumOf _) (path-front net a k h) ∙ sum-listed (hopIn net a) _ k)
 
     -- the slowest place
     record Slowest (p s : ℕ) : Type 0 where
@@ -126,25 +119,19 @@ module _ (net : List ℕ) where
       | inr q ↦ rw (lt-ltb (hopIn net a (slowestTo net a p) .cost) (hopIn net a (suc p) .cost) q) (slowest-moves p (slowestTo net a p) (slowest-is p) q)
     ]
 
+    slowest-most : (p : ℕ) → maxTo (suc p) (λ k. hopIn net a k .cost) ≡ hopIn net a (slowestTo net a p) .cost
+    unfolding maxTo slowestTo slowerOf
+    slowest-most zero = omega arith
+    slowest-most (suc p) = elim (le-or-lt (hopIn net a (suc p) .cost) (hopIn net a (slowestTo net a p) .cost)) [
+      | inl q ↦ rw (le-ltb (hopIn net a (slowestTo net a p) .cost) (hopIn net a (suc p) .cost) q) (omega (arith, slowest-most p))
+      | inr q ↦ rw (lt-ltb (hopIn net a (slowestTo net a p) .cost) (hopIn net a (suc p) .cost) q) (omega (arith, slowest-most p))
+    ]
+
     module _ (v : Valid (netIn net)) (here : a < countIn net) where
-      place : (k : ℕ) → k < lengthIn net a → positionOf (hopIn net a k .node) (pathIn net a) ≡ k
-      place k h =
-          ap (λ r. positionOf (r .node) (pathIn net a)) (sym (path-at net a k h))
-          ∙ position-at (pathIn net a) (valid-distinct v a here) k (omega (arith, path-length net a))
-
-      same-place : (j k : ℕ) → j < lengthIn net a → k < lengthIn net a → hopIn net a j .node ≡ hopIn net a k .node → j ≡ k
-      same-place j k h i e = sym (place j h) ∙ ap (λ n. positionOf n (pathIn net a)) e ∙ place k i
-
       cost-shared : (b k : ℕ) → b < countIn net → k < lengthIn net a → costAt (crossing b .part) (hopIn net a k .node) ≡ costOn net a b k
       cost-shared b k h i =
           there-shared (pathIn net a) (λ q. q .cost) (hopIn net a k .node) (visits-place k i) (pathIn net b)
-          ∙ sym (cost-on net a b k (valid-distinct v b h))
-
-      own-cost : (k : ℕ) → k < lengthIn net a → costAt (pathIn net a) (hopIn net a k .node) ≡ hopIn net a k .cost
-      own-cost k h =
-          sym (cost-position (hopIn net a k .node) (pathIn net a) (valid-distinct v a here))
-          ∙ ap (λ n. getD (pathIn net a) n noHop .cost) (place k h)
-          ∙ ap (λ r. r .cost) (path-at net a k h)
+          ∙ sym (cost-on net a b k (distinct-in net v b h))
 
       greatest-whole : (p k : ℕ) → k < lengthIn net a →
           greatestCost (netIn net) (flowIn net a) (take (p + 1) (pathIn net a)) (hopIn net a k) ≡ greatestOver net a p k
@@ -173,14 +160,14 @@ module _ (net : List ℕ) where
       unfolding wayOver
       way-whole k h =
           sym
-          (ap (sumOf _) (front k h)
+          (ap (sumOf _) (path-front net a k h)
           ∙ sum-listed (hopIn net a) _ k
           ∙ sum-to-ext k _ _ (λ j i. ap (λ c. netIn net .lmin + c) (least-whole j (omega arith))))
 
       term5-whole : (k : ℕ) → k ≤ lengthIn net a → term5 (netIn net) (flowIn net a) (take k (pathIn net a)) ≡ term5Over net a k
       unfolding term5 term5Over
       term5-whole k h =
-          ap (sumOf _) (front k h) ∙ sum-listed (hopIn net a) _ k ∙ sum-to-ext k _ _ (λ j i. ap (λ c. c - 1) (lower-whole j (omega arith)))
+          ap (sumOf _) (path-front net a k h) ∙ sum-listed (hopIn net a) _ k ∙ sum-to-ext k _ _ (λ j i. ap (λ c. c - 1) (lower-whole j (omega arith)))
 
       module _ (p : ℕ) (in-path : p < lengthIn net a) where
         abbrev P : List Hop
@@ -189,47 +176,25 @@ module _ (net : List ℕ) where
         abbrev s : ℕ
         s = slowestTo net a p
 
-        slowest-below : (h : Hop) → List·Memᴰ h (pathIn net a) → (b : Bool) → visits P (h .node) ≡ b → pick b (h .cost) 0 ≤ hopIn net a s .cost
-        unfolding pathIn
-        slowest-below h m false e = omega arith
-        slowest-below h m true e =
-            let q = visits-hop P (h .node) e in
-            let j = member-listed (hopIn net a) (p + 1) (subst (List·Memᴰ (q .0)) (front (p + 1) (omega arith)) (q .1)) in
-            let k = member-listed (hopIn net a) (lengthIn net a) m in
-            let z = same-place (j .0) (k .0) (omega (arith, j .1)) (k .1) (sym (ap (λ r. r .node) (j .2)) ∙ q .2 ∙ ap (λ r. r .node) (k .2)) in
-            omega (arith, ap (λ r. r .cost) (k .2), ap (λ n. hopIn net a n .cost) z, slowest-is p .greatest (j .0) (omega (arith, j .1)))
-
         slowest-cost : slowest P (pathIn net a) ≡ hopIn net a s .cost
-        unfolding slowest pathIn
-        slowest-cost = omega (
-          arith,
-          max-under (only (λ k. visits P (k .node)) (λ k. k .cost)) (pathIn net a) (hopIn net a s .cost) (λ h m. slowest-below h m (visits P (h .node)) refl),
-          slowest-at P (listed-member (hopIn net a) (lengthIn net a) s (omega (arith, slowest-is p .most))) visited,
-        )
-          where
-            visited : visits P (hopIn net a s .node) ≡ true
-            visited = rw (front (p + 1) (omega arith)) (visits-member (listed-member (hopIn net a) (p + 1) s (omega (arith, slowest-is p .most))))
+        slowest-cost = own-slowest net a (distinct-in net v a here) (p + 1) (omega arith) ∙ rw (add-one p) (slowest-most p)
 
         slowest-node : slowestNode P (flowIn net a) ≡ hopIn net a s .node
         unfolding slowestNode
-        slowest-node = rw (slowest-cost, front (p + 1) (omega arith))
+        slowest-node = rw (slowest-cost, path-front net a (p + 1) (omega arith))
             (earliest-at (hopIn net a s .cost) (listTo (hopIn net a) (p + 1)) s (omega (arith, length-to (hopIn net a) (p + 1), slowest-is p .most))
             (ap (λ r. r .cost) (at-to (hopIn net a) (p + 1) s noHop (omega (arith, slowest-is p .most))))
             (λ k i. omega (arith, ap (λ r. r .cost) (at-to (hopIn net a) (p + 1) k noHop (omega (arith, slowest-is p .most))), slowest-is p .earlier k i))
             ∙ ap (λ r. r .node) (at-to (hopIn net a) (p + 1) s noHop (omega (arith, slowest-is p .most))))
 
         at-slowest : (k : ℕ) → k < lengthIn net a → eqb (hopIn net a k .node) (slowestNode P (flowIn net a)) ≡ eqb k s
-        at-slowest k h = ap (eqb (hopIn net a k .node)) slowest-node ∙ go (eqb k s) refl
-          where
-            go : (b : Bool) → eqb k s ≡ b → eqb (hopIn net a k .node) (hopIn net a s .node) ≡ b
-            go true e = eq-eqb (hopIn net a k .node) (hopIn net a s .node) (ap (λ n. hopIn net a n .node) (eqb-true k s e))
-            go false e =
-                ne-eqb (hopIn net a k .node) (hopIn net a s .node) (λ q. eqb-false k s e (same-place k s h (omega (arith, slowest-is p .most)) q))
+        at-slowest k h =
+            ap (eqb (hopIn net a k .node)) slowest-node ∙ own-same net a (distinct-in net v a here) k s h (omega (arith, slowest-is p .most))
 
         term4-whole : term4 (netIn net) (flowIn net a) P ≡ term4Over net a p s
         unfolding term4 term4Over term4By
         term4-whole =
-            ap (sumOf _) (front (p + 1) (omega arith))
+            ap (sumOf _) (path-front net a (p + 1) (omega arith))
             ∙ sum-listed (hopIn net a) _ (p + 1)
             ∙ sum-to-ext (p + 1) _ _ (λ k h. ap₂ (λ t c. pick t 0 c) (at-slowest k (omega arith)) (greatest-whole p k (omega arith)))
 
@@ -240,7 +205,7 @@ module _ (net : List ℕ) where
           term4-whole,
           term5-whole (p + 1) (omega arith),
           slowest-cost,
-          own-cost p in-path,
+          own-cost net a (distinct-in net v a here) p in-path,
           ap (λ n. n * netIn net .lmax) links,
         )
           where

@@ -2,13 +2,15 @@
 use mathlib.Core.Path.{_≡_}
 use Prim.Native.Nat.{_-_, _≤_}
 use borrow.Author.Needs.{needs}
-use Rattle.loads.specs.Load.{slowestTo}
-use Rattle.loads.proofs.Turns.{slowest-start, slowest-more, slowest-end}
+use Rattle.least.specs.Fold.{maxTo}
+use Rattle.least.proofs.Ranges.{max-to-next}
+use Rattle.crossings.specs.Pairs.{costOn}
+use Rattle.loads.proofs.Turns.{slowest-start, slowest-end}
 use Rattle.loads.proofs.slowest_on.Statement.{statement}
 use Rattle.loads.proofs.slowest_on.Tie as tie
 
 abbrev Inv-loop : tie.InvT-loop
-Inv-loop net pairs a b m most₀ k₀ most k = (k ≤ m) × (most ≤ 65535) × (most ≡ slowestTo net a b k)
+Inv-loop net pairs a b m most₀ k₀ most k = (k ≤ m) × (most ≤ 65535) × (most ≡ maxTo k (costOn net a b))
 
 abbrev μ-loop : tie.MeasureT-loop
 μ-loop net pairs a b m most₀ k₀ most k = m - k
@@ -32,7 +34,7 @@ loop-less : tie.Need-loop-less Inv-loop μ-loop
 loop-less c = search needs
 
 loop-again : tie.Need-loop-again Inv-loop μ-loop
-loop-again c = (search needs, search needs, search slowest-more)
+loop-again c = (search needs, search needs, search max-to-next)
 
 returns : tie.Need-returns Inv-loop μ-loop
 returns c = (search slowest-end, search needs)

@@ -1,17 +1,18 @@
 -- `sheets::write_equal` meets its contract.
-use mathlib.Core.Path.{_≡_, refl, sym, ap, _∙_}
+use mathlib.Core.Path.{_≡_, refl, sym, _∙_}
 use Prim.Native.Nat.{suc, _+_, _-_, _≤_, _<_}
-use native.Mathlib.Numerals.{add-one}
 use native.Mathlib.Omega.{arith}
 use lib.ListN.{length}
 use borrow.Author.Needs.{needs}
 use Rattle.least.specs.Lists.{values}
+use Rattle.least.proofs.Ranges.{max-to-next}
 use Rattle.rules.specs.Valid.{Valid}
 use Rattle.nets.specs.Nets.{countIn, lengthIn, netIn}
+use Rattle.crossings.specs.Pairs.{costOn}
 use Rattle.sheets.specs.Rows.{nearTo, weightTo, equalAt}
 use Rattle.sheets.specs.Blocks.{fromOn}
 use Rattle.sheets.proofs.Blocks.{frame-less, Going, going-from, going-end, going-room, going-more}
-use Rattle.sheets.proofs.Writing.{from-none, from-one, Shared, shared-first, near-more, weight-none, weight-next, equal-made}
+use Rattle.sheets.proofs.Writing.{from-none, from-one, Shared, shared-first, near-more, weight-none, equal-made}
 use Rattle.sheets.proofs.write_equal.Statement.{statement}
 use Rattle.sheets.proofs.write_equal.Tie as tie
 
@@ -158,12 +159,12 @@ loop-again c =
     let t = l .before .period in
     let more = c .before .before .append in
     let smin = c .before .before .before .before .before .smallest in
-    let w = weight-next net a b p (l .loop .inv .4) (c .before .before .before .before .before .before .heavier .ensures .0) in (
+    let w = max-to-next (costOn net a b) p (l .loop .inv .4) refl (c .before .before .before .before .before .before .heavier .ensures .0) in (
       omega (arith, l .loop .inv .0),
       omega (arith, l .before .before .before .before .before .before .before .hops .ensures .0),
       more .ensures .1 ∙ l .loop .inv .2,
       c .before .before .before .before .before .before .heavier .ensures .1,
-      w ∙ ap (weightTo net a b) (sym (add-one p)),
+      w,
       n .1,
       going-more (s .pre .1) i (l .loop .inv .6) (from-one f (equalAt net a b r f) p (l .loop .inv .0)) (more .ensures .0) (more .ensures .1)
           (λ v.

@@ -1,16 +1,17 @@
 -- `sheets::write_own` meets its contract.
-use mathlib.Core.Path.{_≡_, refl, sym, ap, _∙_}
+use mathlib.Core.Path.{_≡_, refl, _∙_}
 use mathlib.Core.List.{[], _∷_}
 use Prim.Native.Nat.{_-_, _≤_, _<_}
-use native.Mathlib.Numerals.{add-one}
 use native.Mathlib.Omega.{arith}
 use lib.ListN.{length}
 use borrow.Author.Needs.{needs}
+use Rattle.least.specs.Fold.{maxTo}
+use Rattle.least.proofs.Ranges.{max-to-next}
 use Rattle.rules.specs.Valid.{Valid}
-use Rattle.nets.specs.Nets.{countIn, lengthIn, netIn}
+use Rattle.nets.specs.Nets.{countIn, lengthIn, hopIn, netIn}
 use Rattle.sheets.specs.Rows.{ownTo, ownAt}
 use Rattle.sheets.proofs.Blocks.{frame-less, Going, going-from, going-end, going-room, going-more}
-use Rattle.sheets.proofs.Writing.{own-next, own-made}
+use Rattle.sheets.proofs.Writing.{own-made}
 use Rattle.sheets.proofs.write_own.Statement.{statement}
 use Rattle.sheets.proofs.write_own.Tie as tie
 
@@ -32,7 +33,7 @@ period-requires : tie.Need-period-requires Inv-loop μ-loop
 period-requires c κs = search needs
 
 loop-holds : tie.Need-loop-holds Inv-loop μ-loop
-unfolding ownTo
+unfolding maxTo
 loop-holds c = (omega arith, refl, omega arith, refl, going-from (c .before .before .before .before .pre .1) 0 (λ k h. absurd (omega arith)))
 
 cost-requires : tie.Need-cost-requires Inv-loop μ-loop
@@ -63,11 +64,11 @@ loop-again c =
     let t = l .before .period in
     let more = c .before .before .append in
     let cost = c .before .before .before .before .before .cost in
-    let w = own-next net (s .args .a) (l .loop .p) (l .loop .inv .3) (cost .ensures .0) (c .before .before .before .before .greater .ensures) in (
+    let w = max-to-next (λ k. hopIn net (s .args .a) k .cost) (l .loop .p) (l .loop .inv .3) (cost .ensures .0) (c .before .before .before .before .greater .ensures) in (
       omega arith,
       more .ensures .1 ∙ l .loop .inv .1,
       omega arith,
-      w ∙ ap (ownTo net (s .args .a)) (sym (add-one (l .loop .p))),
+      w,
       going-more (s .pre .1) (inside (c .before .before .before .before .before .before)) (l .loop .inv .4) refl (more .ensures .0) (more .ensures .1)
           (λ v. own-made net (s .args .a) (l .loop .p) (t .ensures .0) w),
     )
