@@ -98,12 +98,31 @@ module _ (net : List ℕ) (a b k : ℕ) where
 -- what is read of two flows: the pair begins at `at`, w is the room for nodes
 module _ (net bytes : List ℕ) (a b : ℕ) (q : Noted net bytes a b) (at : ℕ) (e : at ≡ pairAt net a b) where
   noted : PairIs net bytes a b
-  noted = q .all a b (q .one) (q .other)
+  noted = q .all .each a b (q .one) (q .other)
+
+  -- its last number stands in the bytes
+  within : at + roomIn net + 2 < length bytes
+  within =
+      let h : a * countIn net + b + 1 ≤ countIn net * countIn net =
+      omega (arith, mul-le-mul-right {m = a + 1} {n = countIn net} (countIn net) (omega (arith, q .one)), q .other) in
+      omega (arith, q .all .long, mul-le-mul-right {m = a * countIn net + b + 1} {n = countIn net * countIn net} (pairSize net) h)
+
+  pub place-within : (k : ℕ) → k < lengthIn net a → at + k < length bytes
+  place-within k h = omega (arith, within)
 
   pub read-place : (k r : ℕ) → k < lengthIn net a → r ≡ values bytes (at + k) → r ≡ placeOn net a b k
   read-place k r h s = s ∙ ap (λ x. values bytes (x + k)) e ∙ noted .places k h
 
   module _ (w : ℕ) (v : w ≡ roomIn net) where
+    pub side-within : at + w < length bytes
+    side-within = omega (arith, within)
+
+    pub first-within : at + w + 1 < length bytes
+    first-within = omega (arith, within)
+
+    pub turn-within : at + w + 2 < length bytes
+    turn-within = omega (arith, within)
+
     pub read-side : (r : ℕ) → r ≡ values bytes (at + w) → r ≡ sideNumber (role (flowIn net a) (flowIn net b))
     read-side r s = s ∙ ap (λ x. values bytes (x + w)) e ∙ ap (λ x. values bytes (pairAt net a b + x)) v ∙ noted .side
 
@@ -294,6 +313,9 @@ module _ (n c : ℕ) (h : c < n * n) where
         before : a * n + b < c → a * countIn net + b < c / n * countIn net + c % n
         before r = omega (arith, ap (λ x. a * x) e, ap (λ x. c / n * x) e, div-add-mod' c n)
 
-pub pairs-all : (net l : List ℕ) (n c : ℕ) → n ≡ countIn net → n * n ≤ c → ((a b : ℕ) → a < n → b < n → a * n + b < c → PairIs net l a b) → PairsAre net l
-pairs-all net l n c e h inv a b u v =
-    inv a b (omega arith) (omega arith) (omega (arith, mul-le-mul-right {m = a + 1} {n = n} n (omega arith)))
+pub pairs-all : (net l : List ℕ) (n c : ℕ) → n ≡ countIn net → n * n ≤ c → ((a b : ℕ) → a < n → b < n → a * n + b < c → PairIs net l a b) →
+    countIn net * countIn net * pairSize net ≤ length l → PairsAre net l
+pairs-all net l n c e h inv q = record {
+  each = λ a b u v. inv a b (omega arith) (omega arith) (omega (arith, mul-le-mul-right {m = a + 1} {n = n} n (omega arith)));
+  long = q;
+}

@@ -3,7 +3,7 @@
 use mathlib.Core.Path.{_≡_}
 use mathlib.Core.Bool.{Bool}
 use mathlib.Core.List.{List}
-use Prim.Native.Nat.{ℕ, _+_, _*_, _<_}
+use Prim.Native.Nat.{ℕ, _+_, _*_, _≤_, _<_}
 use lib.Dec.{ltb, eqb}
 use lib.ListN.{length, getD, take}
 use Rattle.least.specs.Count.{pick}
@@ -47,8 +47,9 @@ pub record PairIs (net pairs : List ℕ) (a b : ℕ) : Type 0 where
       (pick (ltb (values pairs (pairAt net a b + roomIn net + 1)) (lengthIn net a)) (placeOn net a b (values pairs (pairAt net a b + roomIn net + 1))) 0)
       (values pairs (pairAt net a b + roomIn net + 2))
 
-abbrev pub PairsAre : List ℕ → List ℕ → Type 0
-PairsAre net pairs = (a b : ℕ) → a < countIn net → b < countIn net → PairIs net pairs a b
+pub record PairsAre (net pairs : List ℕ) : Type 0 where
+  pub each : (a b : ℕ) → a < countIn net → b < countIn net → PairIs net pairs a b
+  pub long : countIn net * countIn net * pairSize net ≤ length pairs
 
 -- two flows of the set, and what is noted
 pub record Noted (net pairs : List ℕ) (a b : ℕ) : Type 0 where

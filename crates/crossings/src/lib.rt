@@ -28,14 +28,21 @@ fn pair_at(net: &[u16], a: usize, b: usize) -> usize
     (a * nets::count(net) + b) * (nets::room(net) + 3)
 }
 
+fn wide(x: u8) -> u64
+    ensures { λ r. ⌜ r ≡ x ⌝ }
+    ensures { λ r. ⌜ r ≤ 255 ⌝ }
+{
+    x as u64
+}
+
 // The first of m numbers from a place on that is below the bound.
 fn first_below(pairs: &[u8], at: usize, m: usize, bound: u64) -> usize
-    requires { ⌜ (at ≤ 270000) × (m ≤ few) ⌝ }
+    requires { ⌜ (at ≤ 270000) × (m ≤ few) × (at + m ≤ length (now pairs)) ⌝ }
     ensures { λ r. ⌜ First (λ k. values (now (pairs .entry)) (at + k)) m bound r ⌝ }
 {
     let mut k: usize = 0;
     while k < m {
-        if least::at_byte(pairs, at + k) < bound {
+        if wide(pairs[at + k]) < bound {
             return k;
         }
         k += 1;
@@ -79,11 +86,11 @@ fn note_places(net: &[u16], pairs: &mut [u8], a: usize, b: usize)
 
 // The number noted at a place of the pair, if it is one of m; 0 otherwise.
 fn below(pairs: &[u8], at: usize, k: usize, m: usize) -> u64
-    requires { ⌜ (at ≤ 270000) × (k ≤ few) ⌝ }
+    requires { ⌜ (at ≤ 270000) × (k ≤ few) × (at + m ≤ length (now pairs)) ⌝ }
     ensures { λ r. ⌜ r ≡ pick (ltb k m) (values (now (pairs .entry)) (at + k)) 0 ⌝ }
 {
     if k < m {
-        return least::at_byte(pairs, at + k);
+        return wide(pairs[at + k]);
     }
     0
 }
@@ -125,7 +132,7 @@ pub fn place(net: &[u16], pairs: &[u8], a: usize, b: usize, k: usize) -> usize
     ensures { λ r. ⌜ r ≡ placeOn (now (net .entry)) a b k ⌝ }
     ensures { λ r. ⌜ (r ≤ lengthIn (now (net .entry)) b) × (r ≤ few) ⌝ }
 {
-    least::at_byte(pairs, pair_at(net, a, b) + k) as usize
+    wide(pairs[pair_at(net, a, b) + k]) as usize
 }
 
 // What b is to a.
@@ -134,7 +141,7 @@ pub fn side(net: &[u16], pairs: &[u8], a: usize, b: usize) -> u64
     ensures { λ r. ⌜ r ≡ sideNumber (role (flowIn (now (net .entry)) a) (flowIn (now (net .entry)) b)) ⌝ }
     ensures { λ r. ⌜ r ≤ 3 ⌝ }
 {
-    least::at_byte(pairs, pair_at(net, a, b) + nets::room(net))
+    wide(pairs[pair_at(net, a, b) + nets::room(net)])
 }
 
 // The first place of a's path that b passes; as many as a has nodes, if there is none.
@@ -142,7 +149,7 @@ pub fn first(net: &[u16], pairs: &[u8], a: usize, b: usize) -> usize
     requires { ⌜ Noted (now net) (now pairs) a b ⌝ }
     ensures { λ r. ⌜ First (placeOn (now (net .entry)) a b) (lengthIn (now (net .entry)) a) (lengthIn (now (net .entry)) b) r ⌝ }
 {
-    least::at_byte(pairs, pair_at(net, a, b) + nets::room(net) + 1) as usize
+    wide(pairs[pair_at(net, a, b) + nets::room(net) + 1]) as usize
 }
 
 // Whether b is higher or equal, and runs along a on the prefix at place p.
@@ -157,7 +164,7 @@ pub fn along(net: &[u16], pairs: &[u8], a: usize, b: usize, p: usize) -> bool
     if s == LOWER {
         return false;
     }
-    let turn = least::at_byte(pairs, pair_at(net, a, b) + nets::room(net) + 2) as usize;
+    let turn = wide(pairs[pair_at(net, a, b) + nets::room(net) + 2]) as usize;
     p < turn
 }
 

@@ -3,7 +3,7 @@ use mathlib.Core.Path.{_≡_, refl, sym, ap, _∙_, subst}
 use mathlib.Core.List.{List, [], _∷_, map}
 use Prim.Native.Nat.{ℕ, zero, suc, _+_, _*_, _≤_, _<_}
 use native.Mathlib.Omega.{arith}
-use lib.ListN.{length, getD, set, replicate, length-take, length-map, length-set, length-replicate}
+use lib.ListN.{length, getD, set, length-take, length-map, length-set}
 use lib.Seq.{getD-set-same, getD-set-other, ext-getD}
 use borrow.Author.Count.{below-more}
 use Rattle.least.specs.Lists.{values}
@@ -124,20 +124,24 @@ pub record Stands (f : Flow) (at : ℕ) (net : List ℕ) : Type 0 where
   pub nodes : length (f .nodes) ≡ mostNodes
   pub costs : length (f .costs) ≡ mostNodes
 
--- what is as it was up to its end has the flow
-still-drawn : (f : Flow) (at : ℕ) (old net net′ : List ℕ) → DrawnAt f at old net → ((k : ℕ) → k < at + 22 → values net′ k ≡ values net k) → DrawnAt f at net′ net′
+-- what is as it was from there to its end has the flow
+still-drawn : (f : Flow) (at : ℕ) (old net net′ : List ℕ) → DrawnAt f at old net → ((k : ℕ) → at ≤ k → k < at + 22 → values net′ k ≡ values net k) →
+    DrawnAt f at net′ net′
 still-drawn f at old net net′ d same = record {
-  number = same at (omega arith) ∙ d .number;
-  priority = same (at + 1) (omega arith) ∙ d .priority;
-  period = same (at + 2) (omega arith) ∙ d .period;
-  jitter = same (at + 3) (omega arith) ∙ d .jitter;
-  deadline = same (at + 4) (omega arith) ∙ d .deadline;
-  path = same (at + 5) (omega arith) ∙ d .path;
-  node = λ k h. same (at + (6 + 2 * k)) (omega arith) ∙ d .node k h;
-  cost = λ k h. same (at + (7 + 2 * k)) (omega arith) ∙ d .cost k h;
+  number = same at (omega arith) (omega arith) ∙ d .number;
+  priority = same (at + 1) (omega arith) (omega arith) ∙ d .priority;
+  period = same (at + 2) (omega arith) (omega arith) ∙ d .period;
+  jitter = same (at + 3) (omega arith) (omega arith) ∙ d .jitter;
+  deadline = same (at + 4) (omega arith) (omega arith) ∙ d .deadline;
+  path = same (at + 5) (omega arith) (omega arith) ∙ d .path;
+  node = λ k h. same (at + (6 + 2 * k)) (omega arith) (omega arith) ∙ d .node k h;
+  cost = λ k h. same (at + (7 + 2 * k)) (omega arith) (omega arith) ∙ d .cost k h;
   before = λ k h. refl;
   long = refl;
 }
+
+still-stands : (f : Flow) (at : ℕ) (net net′ : List ℕ) → Stands f at net → ((k : ℕ) → at ≤ k → k < at + 22 → values net′ k ≡ values net k) → Stands f at net′
+still-stands f at net net′ s same = record { drawn = still-drawn f at net net net′ (s .drawn) same; nodes = s .nodes; costs = s .costs }
 
 -- it is read back
 module _ (f : Flow) (net : List ℕ) (a : ℕ) (room : roomIn net ≡ mostNodes) (s : Stands f (4 + a * 22) net) where
@@ -181,62 +185,65 @@ module _ (f : Flow) (net : List ℕ) (a : ℕ) (room : roomIn net ≡ mostNodes)
       }
 
 -- a row of which the flows below a are drawn
-pub record Pictured (row : Row) (lmin lmax : ℕ) (a : ℕ) (net : List ℕ) : Type 0 where
-  pub count : values net 0 ≡ length (held row)
-  pub room : values net 1 ≡ mostNodes
-  pub low : values net 2 ≡ lmin
-  pub high : values net 3 ≡ lmax
+pub record Pictured (row : Row) (a : ℕ) (net : List ℕ) : Type 0 where
   pub flows : (b : ℕ) → b < a → Stands (placed row b) (4 + b * 22) net
   pub long : length net ≡ 356
 
-module _ (row : Row) (lmin lmax : ℕ) where
-  pub picture-none : (n : ℕ) → n ≡ length (held row) → Pictured row lmin lmax 0 (set (set (set (set (replicate 356 0) 0 n) 1 mostNodes) 2 lmin) 3 lmax)
-  picture-none n e = record {
-    count = e;
-    room = refl;
-    low = refl;
-    high = refl;
-    flows = λ b h. absurd (omega arith);
-    long = simp (length-set, length-replicate);
-  }
+-- the head, written last
+abbrev headed : ℕ → ℕ → ℕ → List ℕ → List ℕ
+headed n lmin lmax net = set (set (set (set net 0 n) 1 mostNodes) 2 lmin) 3 lmax
 
-  pub picture-more : (a : ℕ) (net net′ : List ℕ) (f : Flow) → Pictured row lmin lmax a net → f ≡ placed row a → length (f .nodes) ≡ mostNodes → length (f .costs) ≡ mostNodes →
-      DrawnAt f (4 + a * 22) net net′ → Pictured row lmin lmax (a + 1) net′
+module _ (n lmin lmax : ℕ) (net : List ℕ) where
+  headed-behind : (k : ℕ) → 4 ≤ k → values (headed n lmin lmax net) k ≡ values net k
+  headed-behind k h =
+      getD-set-other (set (set (set net 0 n) 1 mostNodes) 2 lmin) 3 k lmax 0 (λ e. omega arith)
+      ∙ getD-set-other (set (set net 0 n) 1 mostNodes) 2 k lmin 0 (λ e. omega arith)
+      ∙ getD-set-other (set net 0 n) 1 k mostNodes 0 (λ e. omega arith)
+      ∙ getD-set-other net 0 k n 0 (λ e. omega arith)
+
+  headed-at : (k : ℕ) → k < 4 → 4 ≤ length net → values (headed n lmin lmax net) k ≡ values (n ∷ mostNodes ∷ lmin ∷ lmax ∷ []) k
+  headed-at k h fit = stored-at (n ∷ mostNodes ∷ lmin ∷ lmax ∷ []) 0 0 net k k (omega arith) h fit
+
+module _ (row : Row) where
+  pub picture-none : (net : List ℕ) → length net ≡ 356 → Pictured row 0 net
+  picture-none net long = record { flows = λ b h. absurd (omega arith); long = long }
+
+  pub picture-more : (a : ℕ) (net net′ : List ℕ) (f : Flow) → Pictured row a net → f ≡ placed row a → length (f .nodes) ≡ mostNodes → length (f .costs) ≡ mostNodes →
+      DrawnAt f (4 + a * 22) net net′ → Pictured row (a + 1) net′
   picture-more a net net′ f i e nodes costs d = record {
-    count = d .before 0 (omega arith) ∙ i .count;
-    room = d .before 1 (omega arith) ∙ i .room;
-    low = d .before 2 (omega arith) ∙ i .low;
-    high = d .before 3 (omega arith) ∙ i .high;
-    flows = below-more (λ b. Stands (placed row b) (4 + b * 22) net′) a past
-        (subst (λ g. Stands g (4 + a * 22) net′) e (record { drawn = still-drawn f (4 + a * 22) net net′ net′ d (λ k h. refl); nodes = nodes; costs = costs }));
+    flows = below-more (λ b. Stands (placed row b) (4 + b * 22) net′) a
+        (λ b h. still-stands (placed row b) (4 + b * 22) net net′ (i .flows b h) (λ k l m. d .before k (omega arith)))
+        (subst (λ g. Stands g (4 + a * 22) net′) e (record { drawn = still-drawn f (4 + a * 22) net net′ net′ d (λ k l m. refl); nodes = nodes; costs = costs }));
     long = d .long ∙ i .long;
   }
-    where
-      past : (b : ℕ) → b < a → Stands (placed row b) (4 + b * 22) net′
-      past b h =
-          let s = i .flows b h in
-          record {
-            drawn = still-drawn (placed row b) (4 + b * 22) net net net′ (s .drawn) (λ k l. d .before k (omega arith));
-            nodes = s .nodes;
-            costs = s .costs;
-          }
 
-  pub picture-end : (a n : ℕ) (net : List ℕ) → Pictured row lmin lmax a net → n ≡ length (held row) → n ≤ mostFlows → n ≤ a → netIn net ≡ netOf lmin lmax row
-  picture-end a n net i size few all = λ x. record { lmin = i .low x; lmax = i .high x; flows = flows x }
-    where
-      count : countIn net ≡ length (held row)
-      count = omega (arith, i .count)
+  module _ (lmin lmax a n : ℕ) (net : List ℕ) (i : Pictured row a net) (size : n ≡ length (held row)) (few : n ≤ mostFlows) where
+    pub picture-count : countIn (headed n lmin lmax net) ≡ length (held row)
+    picture-count = omega (arith, headed-at n lmin lmax net 0 (omega arith) (omega (arith, i .long)))
 
-      room : roomIn net ≡ mostNodes
-      room = omega (arith, i .room)
+    pub picture-room : roomIn (headed n lmin lmax net) ≡ mostNodes
+    picture-room = omega (arith, headed-at n lmin lmax net 1 (omega arith) (omega (arith, i .long)))
 
-      each : (k : ℕ) → k < length (flowsIn net) → getD (flowsIn net) k nets.noFlow ≡ getD (map flowOf (held row)) k nets.noFlow
-      each k h =
-          let u : k < countIn net = omega (arith, reading.flows-length net) in
-          reading.flow-at net k u
-          ∙ flow-read (placed row k) net k room (i .flows k (omega (arith, count)))
-          ∙ sym (at-place lmin lmax row k)
+    pub picture-end : n ≤ a → netIn (headed n lmin lmax net) ≡ netOf lmin lmax row
+    picture-end all = λ x. record {
+      lmin = headed-at n lmin lmax net 2 (omega arith) (omega (arith, i .long)) x;
+      lmax = headed-at n lmin lmax net 3 (omega arith) (omega (arith, i .long)) x;
+      flows = flows x;
+    }
+      where
+        full : List ℕ
+        full = headed n lmin lmax net
 
-      flows : flowsIn net ≡ map flowOf (held row)
-      flows =
-          ext-getD nets.noFlow (flowsIn net) (map flowOf (held row)) (reading.flows-length net ∙ count ∙ sym (length-map (held row) flowOf)) each
+        stands : (k : ℕ) → k < a → Stands (placed row k) (4 + k * 22) full
+        stands k h = still-stands (placed row k) (4 + k * 22) net full (i .flows k h) (λ j l m. headed-behind n lmin lmax net j (omega arith))
+
+        each : (k : ℕ) → k < length (flowsIn full) → getD (flowsIn full) k nets.noFlow ≡ getD (map flowOf (held row)) k nets.noFlow
+        each k h =
+            let u : k < countIn full = omega (arith, reading.flows-length full) in
+            reading.flow-at full k u
+            ∙ flow-read (placed row k) full k picture-room (stands k (omega (arith, picture-count)))
+            ∙ sym (at-place lmin lmax row k)
+
+        flows : flowsIn full ≡ map flowOf (held row)
+        flows =
+            ext-getD nets.noFlow (flowsIn full) (map flowOf (held row)) (reading.flows-length full ∙ picture-count ∙ sym (length-map (held row) flowOf)) each

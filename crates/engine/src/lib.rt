@@ -91,23 +91,22 @@ fn draw(net: &mut [u16], f: Flow, at: usize)
     }
 }
 
-// A row and its link delays as numbers.
-fn picture(row: Row, lmin: u16, lmax: u16) -> [u16; NET]
-    ensures { λ r. ⌜ netIn r ≡ netOf lmin lmax row ⌝ }
-    ensures { λ r. ⌜ (countIn r ≡ length (held row)) × (countIn r ≤ 16) × (roomIn r ≡ 8) ⌝ }
+// A row and its link delays as numbers. The head comes last, so that what is read of it first is what was written last.
+fn picture(net: &mut [u16], row: Row, lmin: u16, lmax: u16)
+    requires { ⌜ length (now net) ≡ 356 ⌝ }
+    ensures { λ r. ⌜ netIn (now (net .exit)) ≡ netOf lmin lmax row ⌝ }
+    ensures { λ r. ⌜ (countIn (now (net .exit)) ≡ length (held row)) × (countIn (now (net .exit)) ≤ 16) × (roomIn (now (net .exit)) ≡ 8) ⌝ }
 {
     let n = row::size(row);
-    let mut net = [0u16; NET];
+    let mut a: usize = 0;
+    while a < n {
+        draw(net, flow_at(row, a), 4 + a * 22);
+        a += 1;
+    }
     net[0] = n as u16;
     net[1] = NODES as u16;
     net[2] = lmin;
     net[3] = lmax;
-    let mut a: usize = 0;
-    while a < n {
-        draw(&mut net, flow_at(row, a), 4 + a * 22);
-        a += 1;
-    }
-    net
 }
 
 // The first flow at whose path the crossing assumption is broken; as many as there are if at none.
@@ -135,7 +134,7 @@ fn note_busies(net: &[u16], pairs: &[u8], weights: &mut [u64], busies: &mut [u64
     let n = nets::count(net);
     let mut a: usize = 0;
     while a < n {
-        busies[a] = loads::busy_length(net, pairs, weights, a);
+        busies[a] = loads::busy_length(net, pairs, weights, 0);
         a += 1;
     }
 }
@@ -318,7 +317,8 @@ pub fn judge(row: Row, lmin: u16, lmax: u16) -> Verdict
     ensures { λ r. ⌜ (Valid (netOf lmin lmax row) → r ≡ verdictOf lmin lmax row) ⌝ }
     ensures { λ r. ⌜ (Valid (netOf lmin lmax row) → Meant (netOf lmin lmax row) r) ⌝ }
 {
-    let net = picture(row, lmin, lmax);
+    let mut net = [0u16; NET];
+    picture(&mut net, row, lmin, lmax);
     let mut pairs = [0u8; PAIRS];
     let mut ways = [0u64; WAYS];
     let mut busies = [0u64; FLOWS];

@@ -46,26 +46,9 @@ pub fn at_short(l: &[u16], k: usize) -> u64
     0
 }
 
-pub fn at_byte(l: &[u8], k: usize) -> u64
-    ensures { λ r. ⌜ r ≡ values (now (l .entry)) k ⌝ }
-    ensures { λ r. ⌜ r ≤ 255 ⌝ }
-{
-    if k < l.len() {
-        return byte(l[k]);
-    }
-    0
-}
-
 fn short(x: u16) -> u64
     ensures { λ r. ⌜ r ≡ x ⌝ }
     ensures { λ r. ⌜ r ≤ 65535 ⌝ }
-{
-    x as u64
-}
-
-fn byte(x: u8) -> u64
-    ensures { λ r. ⌜ r ≡ x ⌝ }
-    ensures { λ r. ⌜ r ≤ 255 ⌝ }
 {
     x as u64
 }

@@ -1,6 +1,6 @@
 -- `crossings::along` meets its contract.
 use borrow.Author.Needs.{needs}
-use Rattle.crossings.proofs.Noting.{own-along, lower-along, side-along, read-turn}
+use Rattle.crossings.proofs.Noting.{turn-within, own-along, lower-along, side-along, read-turn}
 use Rattle.crossings.proofs.along.Statement.{statement}
 use Rattle.crossings.proofs.along.Tie as tie
 
@@ -19,14 +19,17 @@ pair-at-requires c κs = search needs
 room-requires : tie.Need-room-requires
 room-requires c κs = search needs
 
-add-at-byte : tie.Need-add-at-byte
-add-at-byte c = search needs
+add-wide : tie.Need-add-wide
+add-wide c = search needs
 
-add-at-byte-2 : tie.Need-add-at-byte-2
-add-at-byte-2 c = search needs
+add-wide-2 : tie.Need-add-wide-2
+add-wide-2 c = search needs
 
-at-byte-requires : tie.Need-at-byte-requires
-at-byte-requires c κs = search needs
+shared-slice-read-wide : tie.Need-shared-slice-read-wide
+shared-slice-read-wide c = search turn-within
+
+wide-requires : tie.Need-wide-requires
+wide-requires c κs = search needs
 
 returns-3 : tie.Need-returns-3
 returns-3 c = search (side-along, read-turn)
@@ -40,7 +43,8 @@ along-spec =
     returns-2
     pair-at-requires
     room-requires
-    add-at-byte
-    add-at-byte-2
-    at-byte-requires
+    add-wide
+    add-wide-2
+    shared-slice-read-wide
+    wide-requires
     returns-3)

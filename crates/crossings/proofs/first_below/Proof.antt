@@ -15,14 +15,17 @@ abbrev μ-loop : tie.MeasureT-loop
 loop-holds : tie.Need-loop-holds Inv-loop μ-loop
 loop-holds c = search needs
 
-add-at-byte : tie.Need-add-at-byte Inv-loop μ-loop
-add-at-byte c = search needs
+add-wide : tie.Need-add-wide Inv-loop μ-loop
+add-wide c = search needs
 
-at-byte-requires : tie.Need-at-byte-requires Inv-loop μ-loop
-at-byte-requires c κs = search needs
+shared-slice-read-wide : tie.Need-shared-slice-read-wide Inv-loop μ-loop
+shared-slice-read-wide c = search needs
+
+wide-requires : tie.Need-wide-requires Inv-loop μ-loop
+wide-requires c κs = search needs
 
 returns : tie.Need-returns Inv-loop μ-loop
-returns c = let l = c .before .before .before .loop in record { most = search needs; before = l .inv .1; found = λ h. search needs }
+returns c = let l = c .before .before .before .before .loop in record { most = search needs; before = l .inv .1; found = λ h. search needs }
 
 add-k : tie.Need-add-k Inv-loop μ-loop
 add-k c = search needs
@@ -31,7 +34,7 @@ loop-less : tie.Need-loop-less Inv-loop μ-loop
 loop-less c = search needs
 
 loop-again : tie.Need-loop-again Inv-loop μ-loop
-loop-again c = (search needs, below-more _ _ (c .before .before .before .loop .inv .1) (search needs))
+loop-again c = (search needs, below-more _ _ (c .before .before .before .before .loop .inv .1) (search needs))
 
 returns-2 : tie.Need-returns-2 Inv-loop μ-loop
 returns-2 c = record { most = search needs; before = c .before .loop .inv .1; found = λ h. search needs }
@@ -43,8 +46,9 @@ first-below-spec =
     Inv-loop
     μ-loop
     loop-holds
-    add-at-byte
-    at-byte-requires
+    add-wide
+    shared-slice-read-wide
+    wide-requires
     returns
     add-k
     loop-less

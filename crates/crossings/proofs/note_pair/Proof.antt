@@ -34,7 +34,7 @@ hops-requires-2 : tie.Need-hops-requires-2
 hops-requires-2 c κs = search needs
 
 first-below-requires : tie.Need-first-below-requires
-first-below-requires c κs = search needs
+first-below-requires c κs = (search needs, search needs, simp length-set (omega arith))
 
 cast-pairs-2 : tie.Need-cast-pairs-2
 cast-pairs-2 c = search needs
@@ -49,10 +49,10 @@ slice-write-pairs-2 : tie.Need-slice-write-pairs-2
 slice-write-pairs-2 c = simp length-set (omega arith)
 
 below-requires : tie.Need-below-requires
-below-requires c κs = search needs
+below-requires c κs = (search needs, search needs, simp length-set (omega arith))
 
 first-below-requires-2 : tie.Need-first-below-requires-2
-first-below-requires-2 c κs = search needs
+first-below-requires-2 c κs = (search needs, search needs, simp length-set (omega arith))
 
 cast-pairs-3 : tie.Need-cast-pairs-3
 cast-pairs-3 c = search needs

@@ -64,7 +64,7 @@ returns c =
     let l = c .before .loop in
     let n = c .before .before .count in
     let s = c .before .before .before .before .before in
-    (pairs-all (s .args .net .now) (l .pairs) (n .result) (l .c) (n .ensures .0) (c .loop-test .left) (l .inv .2), l .inv .1)
+    (pairs-all (s .args .net .now) (l .pairs) (n .result) (l .c) (n .ensures .0) (c .loop-test .left) (l .inv .2) (omega (arith, s .pre, l .inv .1)), l .inv .1)
 
 pub note-pairs-spec : {M : Type 1} → statement M
 note-pairs-spec =

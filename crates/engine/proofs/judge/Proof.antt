@@ -15,36 +15,39 @@ use Rattle.engine.proofs.judge.Tie as tie
 
 -- what was found, in each arm
 misplaced : (c : tie.After-found) →
-    let p = c .before .before .before .before .before .before .before .before .before .before .before .before .before .before .before .before .before .before .before .before .before .before .picture in
+    let p = c .before .before .before .before .before .before .before .before .before .before .before .before .before .before .before .before .before .before .before .before .before .before .before .picture in
     let f = c .before .before .before .before .before .before .before .before .before .before .before .find in
-    FirstAt (crossed (p .result)) (countIn (p .result)) (c .found .given .0 .0)
+    FirstAt (crossed (p .last .0)) (countIn (p .last .0)) (c .found .given .0 .0)
 misplaced c =
     let f = c .before .before .before .before .before .before .before .before .before .before .before .find in
     subst (FindingIs _ (f .last .1 .1 .1 .0) (f .last .1 .1 .1 .1 .0)) (c .found .given .1) (f .ensures .0)
 
 overloaded : (c : tie.After-found2) →
-    let p = c .before .before .before .before .before .before .before .before .before .before .before .before .before .before .before .before .before .before .before .before .before .before .picture in
+    let p = c .before .before .before .before .before .before .before .before .before .before .before .before .before .before .before .before .before .before .before .before .before .before .before .picture in
     let f = c .before .before .before .before .before .before .before .before .before .before .before .find in
-    Clear (crossed (p .result)) (countIn (p .result)) × Heavy (p .result) (f .last .1 .1 .1 .0) (c .found2 .given .0 .0)
+    Clear (crossed (p .last .0)) (countIn (p .last .0)) × Heavy (p .last .0) (f .last .1 .1 .1 .0) (c .found2 .given .0 .0)
 overloaded c =
     let f = c .before .before .before .before .before .before .before .before .before .before .before .find in
     subst (FindingIs _ (f .last .1 .1 .1 .0) (f .last .1 .1 .1 .1 .0)) (c .found2 .given .1) (f .ensures .0)
 
 past : (c : tie.After-enum-told) →
-    let p = c .before .before .before .before .before .before .before .before .before .before .before .before .before .before .before .before .before .before .before .before .before .before .picture in
+    let p = c .before .before .before .before .before .before .before .before .before .before .before .before .before .before .before .before .before .before .before .before .before .before .before .picture in
     let f = c .before .before .before .before .before .before .before .before .before .before .before .find in
-    Clear (crossed (p .result)) (countIn (p .result)) × Outcome (p .result) (f .last .1 .1 .1 .0) true (f .last .1 .1 .1 .1 .0)
+    Clear (crossed (p .last .0)) (countIn (p .last .0)) × Outcome (p .last .0) (f .last .1 .1 .1 .0) true (f .last .1 .1 .1 .1 .0)
 past c =
     let f = c .before .before .before .before .before .before .before .before .before .before .before .find in
     subst (FindingIs _ (f .last .1 .1 .1 .0) (f .last .1 .1 .1 .1 .0)) (c .enum-told .given .1) (f .ensures .0)
 
 settled : (c : tie.After-enum-told2) →
-    let p = c .before .before .before .before .before .before .before .before .before .before .before .before .before .before .before .before .before .before .before .before .before .before .picture in
+    let p = c .before .before .before .before .before .before .before .before .before .before .before .before .before .before .before .before .before .before .before .before .before .before .before .picture in
     let f = c .before .before .before .before .before .before .before .before .before .before .before .find in
-    Clear (crossed (p .result)) (countIn (p .result)) × Outcome (p .result) (f .last .1 .1 .1 .0) false (f .last .1 .1 .1 .1 .0)
+    Clear (crossed (p .last .0)) (countIn (p .last .0)) × Outcome (p .last .0) (f .last .1 .1 .1 .0) false (f .last .1 .1 .1 .1 .0)
 settled c =
     let f = c .before .before .before .before .before .before .before .before .before .before .before .find in
     subst (FindingIs _ (f .last .1 .1 .1 .0) (f .last .1 .1 .1 .1 .0)) (c .enum-told2 .given .1) (f .ensures .0)
+
+slice-aggregate-picture : tie.Need-slice-aggregate-picture
+slice-aggregate-picture c = search needs
 
 picture-requires : tie.Need-picture-requires
 picture-requires c κs = search needs
@@ -81,15 +84,15 @@ slice-aggregate-find-10 c = search needs
 
 find-requires : tie.Need-find-requires
 find-requires c κs =
-    let p = c .before .before .before .before .before .before .before .before .before .before .picture in
-    room-enough (p .result) (p .ensures .1 .1) (p .ensures .1 .2)
+    let p = c .before .before .before .before .before .before .before .before .before .before .before .picture in
+    room-enough (p .last .0) (p .ensures .1 .1) (p .ensures .1 .2)
 
 enum-known-found : tie.Need-enum-known-found
 enum-known-found c = search needs
 
 number-at-requires : tie.Need-number-at-requires
 number-at-requires c κs =
-    let p = c .before .before .before .before .before .before .before .before .before .before .before .before .before .before .before .before .before .before .before .before .before .before .before .picture in
+    let p = c .before .before .before .before .before .before .before .before .before .before .before .before .before .before .before .before .before .before .before .before .before .before .before .before .picture in
     omega (arith, misplaced (c .before) .within, p .ensures .1 .0)
 
 refuse-requires : tie.Need-refuse-requires
@@ -100,7 +103,7 @@ enum-known-found-2 c = search needs
 
 number-at-requires-2 : tie.Need-number-at-requires-2
 number-at-requires-2 c κs =
-    let p = c .before .before .before .before .before .before .before .before .before .before .before .before .before .before .before .before .before .before .before .before .before .before .before .picture in
+    let p = c .before .before .before .before .before .before .before .before .before .before .before .before .before .before .before .before .before .before .before .before .before .before .before .before .picture in
     omega (arith, overloaded (c .before) .1 .heavy .within, p .ensures .1 .0)
 
 refuse-requires-2 : tie.Need-refuse-requires-2
@@ -117,43 +120,44 @@ enum-told-2 c = search needs
 
 figures-of-requires : tie.Need-figures-of-requires
 figures-of-requires c κs =
-    let p = c .before .before .before .before .before .before .before .before .before .before .before .before .before .before .before .before .before .before .before .before .before .before .picture in
+    let p = c .before .before .before .before .before .before .before .before .before .before .before .before .before .before .before .before .before .before .before .before .before .before .before .picture in
     let f = c .before .before .before .before .before .before .before .before .before .before .before .find in
-    (settled c .1 .settled .low, λ k h. clear-low (f .last .1 .1 .1 .0) (countIn (p .result)) (settled c .1 .light) k (omega (arith, p .ensures .1 .0)))
+    (settled c .1 .settled .low, λ k h. clear-low (f .last .1 .1 .1 .0) (countIn (p .last .0)) (settled c .1 .light) k (omega (arith, p .ensures .1 .0)))
 
 judge-figures-requires : tie.Need-judge-figures-requires
 judge-figures-requires c κs = search needs
 
 returns : tie.Need-returns
 returns c =
-    let p = c .before .before .before .before .before .before .before .before .before .before .before .before .before .before .before .before .before .before .before .before .before .before .before .before .before .picture in
+    let p = c .before .before .before .before .before .before .before .before .before .before .before .before .before .before .before .before .before .before .before .before .before .before .before .before .before .before .picture in
     let n = c .before .number-at in
-    judge-meant _ _ _ _ (λ v. crossing-said _ _ _ v (p .result) (p .ensures .0) _ _ (misplaced (c .before .before .before)) (c .refuse .ensures ∙ ap (λ k. refused (Crossing k)) (n .ensures)))
+    judge-meant _ _ _ _ (λ v. crossing-said _ _ _ v (p .last .0) (p .ensures .0) _ _ (misplaced (c .before .before .before)) (c .refuse .ensures ∙ ap (λ k. refused (Crossing k)) (n .ensures)))
 
 returns-2 : tie.Need-returns-2
 returns-2 c =
-    let p = c .before .before .before .before .before .before .before .before .before .before .before .before .before .before .before .before .before .before .before .before .before .before .before .before .before .picture in
+    let p = c .before .before .before .before .before .before .before .before .before .before .before .before .before .before .before .before .before .before .before .before .before .before .before .before .before .before .picture in
     let n = c .before .number-at2 in
     let o = overloaded (c .before .before .before) in
-    judge-meant _ _ _ _ (λ v. overload-said _ _ _ v (p .result) (p .ensures .0) _ (o .0) _ _ (o .1) (c .refuse2 .ensures ∙ ap (λ k. refused (NoBusyLength k)) (n .ensures)))
+    judge-meant _ _ _ _ (λ v. overload-said _ _ _ v (p .last .0) (p .ensures .0) _ (o .0) _ _ (o .1) (c .refuse2 .ensures ∙ ap (λ k. refused (NoBusyLength k)) (n .ensures)))
 
 returns-3 : tie.Need-returns-3
 returns-3 c =
-    let p = c .before .before .before .before .before .before .before .before .before .before .before .before .before .before .before .before .before .before .before .before .before .before .before .picture in
+    let p = c .before .before .before .before .before .before .before .before .before .before .before .before .before .before .before .before .before .before .before .before .before .before .before .before .picture in
     let o = past (c .before) in
-    judge-meant _ _ _ _ (λ v. unsettled-said _ _ _ v (p .result) (p .ensures .0) _ (o .0) _ _ (o .1) (c .refuse3 .ensures))
+    judge-meant _ _ _ _ (λ v. unsettled-said _ _ _ v (p .last .0) (p .ensures .0) _ (o .0) _ _ (o .1) (c .refuse3 .ensures))
 
 returns-4 : tie.Need-returns-4
 returns-4 c =
-    let p = c .before .before .before .before .before .before .before .before .before .before .before .before .before .before .before .before .before .before .before .before .before .before .before .before .picture in
+    let p = c .before .before .before .before .before .before .before .before .before .before .before .before .before .before .before .before .before .before .before .before .before .before .before .before .before .picture in
     let t = c .before .figures-of in
     let o = settled (c .before .before) in
-    judge-meant _ _ _ _ (λ v. figures-said _ _ _ v (p .result) (p .ensures .0) _ _ (o .1) (p .ensures .1 .1) (p .ensures .1 .2) (t .result) (t .ensures) (o .0) _ (c .judge-figures .ensures))
+    judge-meant _ _ _ _ (λ v. figures-said _ _ _ v (p .last .0) (p .ensures .0) _ _ (o .1) (p .ensures .1 .1) (p .ensures .1 .2) (t .result) (t .ensures) (o .0) _ (c .judge-figures .ensures))
 
 pub judge-spec : {M : Type 1} → statement M
 judge-spec =
     tie.close
     (tie.spec
+    slice-aggregate-picture
     picture-requires
     slice-aggregate-find
     slice-aggregate-find-2
