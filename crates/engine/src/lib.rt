@@ -134,7 +134,7 @@ fn note_busies(net: &[u16], pairs: &[u8], weights: &mut [u64], busies: &mut [u64
     let n = nets::count(net);
     let mut a: usize = 0;
     while a < n {
-        busies[a] = loads::busy_length(net, pairs, weights, 0);
+        busies[a] = loads::busy_length(net, pairs, weights, a);
         a += 1;
     }
 }

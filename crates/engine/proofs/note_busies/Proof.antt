@@ -23,7 +23,9 @@ loop-holds : tie.Need-loop-holds Inv-loop μ-loop
 loop-holds c = (search needs, λ v k h. absurd (omega arith), refl, refl)
 
 busy-length-requires : tie.Need-busy-length-requires Inv-loop μ-loop
-busy-length-requires c κs = search needs
+busy-length-requires c κs =
+    let s = c .before .before .before .before .before .before .before .before in
+    (record { all = s .pre .0; one = search needs; other = search needs }, search needs)
 
 mul-busies : tie.Need-mul-busies Inv-loop μ-loop
 mul-busies c = search needs

@@ -65,8 +65,7 @@ returns : tie.Need-returns Inv-loop μ-loop
 returns c =
     let l = c .before .loop in
     let n = c .before .before .size in
-    let count = picture-count _ _ _ (l .a) (n .result) (l .net) (l .inv .1) (search needs) (search needs) in
-    (
+    let count = picture-count _ _ _ (l .a) (n .result) (l .net) (l .inv .1) (search needs) (search needs) in (
       picture-end _ _ _ (l .a) (n .result) (l .net) (l .inv .1) (search needs) (search needs) (search needs),
       (count, search needs, picture-room _ _ _ (l .a) (n .result) (l .net) (l .inv .1) (search needs) (search needs)),
     )
