@@ -4,7 +4,7 @@
    else, keeps nothing between calls, allocates nothing, and may be called from several threads. plan or report may be NULL if len is 0. Only
    kezhuvanam_report_write writes, and only into the buffer that it is handed.
 
-   Stack: a call takes 424 KiB of stack, whatever the plan. A thread with less dies. The calls on a report alone take at most 4 KiB.
+   Stack: a call takes 21 KiB of stack, whatever the plan. A thread with less dies. The calls on a report alone take at most 4 KiB.
 
    Time: a call on a report ends at once. A call on a plan ends on any plan, but how long it takes hangs on the plan's numbers and not on its
    length, and nothing stops it before. This plan of 210 bytes takes minutes: six flows of one priority, Lmin = Lmax = 1, J = 0, D = 65,535,
