@@ -1,11 +1,10 @@
 -- What is noted of a pair: how it is read, what is stored of it, and what stores keep. Assumes nothing.
 use mathlib.Core.Path.{_≡_, refl, sym, ap, _∙_, subst}
 use mathlib.Core.Bool.{Bool, true, false}
-use mathlib.Core.Logic.{inl, inr}
 use mathlib.Core.List.{List}
-use Prim.Native.Nat.{ℕ, _+_, _*_, _/_, _%_, _≤_, _<_}
+use Prim.Native.Nat.{ℕ, _+_, _*_, _≤_, _<_}
 use native.Mathlib.Omega.{arith}
-use native.Mathlib.Nat.{mul-le-mul, mul-le-mul-right, mul-add-div-right, mul-add-mod-self-right, mod-eq-of-lt, div-eq-of-lt, div-lt-iff-lt-mul, div-add-mod', mod-lt}
+use native.Mathlib.Nat.{mul-le-mul, mul-le-mul-right}
 use lib.Dec.{ltb, eqb}
 use lib.ListN.{length, take, set, length-set}
 use lib.Seq.{getD-set-same, getD-set-other}
@@ -13,14 +12,13 @@ use borrow.Author.Count.{below-more}
 use borrow.Author.Tests.{eq-eqb, ne-eqb, lt-ltb, le-ltb, ltb-true}
 use Rattle.least.specs.Count.{pick}
 use Rattle.least.specs.Lists.{values, First}
-use Rattle.least.proofs.Count.{le-or-lt}
 use Rattle.least.proofs.Lists.{first-same}
 use Rattle.rules.specs.Net.{Flow}
 use Rattle.rules.specs.Formula.{Role, Own, Higher, Equal, Lower, role, higherOrEqual, firstOn}
 use Rattle.nets.specs.Nets.{few, countIn, roomIn, lengthIn, hopIn, pathIn, flowIn, positionOf}
 use Rattle.nets.proofs.Reading.{path-length}
 use Rattle.nets.proofs.Places.{before-length}
-use Rattle.crossings.specs.Pairs.{placeOn, sideNumber, alongTo, pairSize, pairAt, PairIs, PairsAre, Noted, Ahead}
+use Rattle.crossings.specs.Pairs.{placeOn, sideNumber, alongTo, pairSize, pairAt, PairIs, Noted, Ahead}
 use Rattle.crossings.proofs.Turns.{along-turn}
 
 -- where a pair begins
@@ -34,6 +32,12 @@ pair-fits a b n w p q r s =
 
 pub pair-begins : (net : List ℕ) (a b n w : ℕ) → n ≡ countIn net → w ≡ roomIn net → (a * n + b) * (w + 3) ≡ pairAt net a b
 pair-begins net a b n w p q = ap (λ x. (a * x + b) * (w + 3)) p ∙ ap (λ y. (a * countIn net + b) * (y + 3)) q
+
+pub pair-room : (net : List ℕ) (a b len : ℕ) → a < countIn net → b < countIn net → countIn net * countIn net * pairSize net ≤ len →
+    pairAt net a b + pairSize net ≤ len
+pair-room net a b len p q h =
+    let i : a * countIn net + b + 1 ≤ countIn net * countIn net = omega (arith, mul-le-mul-right {m = a + 1} {n = countIn net} (countIn net) (omega arith)) in
+    omega (arith, mul-le-mul-right {m = a * countIn net + b + 1} {n = countIn net * countIn net} (pairSize net) i)
 
 -- what j is to i, as a number
 module _ (i j : Flow) (x y : ℕ) (one : x ≡ i .number) (other : y ≡ j .number) where
@@ -102,10 +106,7 @@ module _ (net bytes : List ℕ) (a b : ℕ) (q : Noted net bytes a b) (at : ℕ)
 
   -- its last number stands in the bytes
   within : at + roomIn net + 2 < length bytes
-  within =
-      let h : a * countIn net + b + 1 ≤ countIn net * countIn net =
-      omega (arith, mul-le-mul-right {m = a + 1} {n = countIn net} (countIn net) (omega (arith, q .one)), q .other) in
-      omega (arith, q .all .long, mul-le-mul-right {m = a * countIn net + b + 1} {n = countIn net * countIn net} (pairSize net) h)
+  within = omega (arith, pair-room net a b (length bytes) (q .one) (q .other) (q .all .long))
 
   pub place-within : (k : ℕ) → k < lengthIn net a → at + k < length bytes
   place-within k h = omega (arith, within)
@@ -159,8 +160,8 @@ module _ (at : ℕ) (l₀ l : List ℕ) (h : Ahead at l₀ l) where
     long = length-set l i x ∙ h .long;
   }
 
-  pub ahead-then : (l′ : List ℕ) → Ahead at l l′ → Ahead at l₀ l′
-  ahead-then l′ q = record { before = λ k r. q .before k r ∙ h .before k r; long = q .long ∙ h .long }
+  pub ahead-then : (l′ : List ℕ) (i : ℕ) → at ≤ i → Ahead i l l′ → Ahead at l₀ l′
+  ahead-then l′ i p q = record { before = λ k r. q .before k (omega arith) ∙ h .before k r; long = q .long ∙ h .long }
 
 pub ahead-none : (at : ℕ) (l : List ℕ) → Ahead at l l
 ahead-none at l = record { before = λ k r. refl; long = refl }
@@ -249,7 +250,7 @@ pair-stored net l₀ l a b fits h places at w m n s f bound t e v p q side first
     let turn′ = rw (z, e, v, p) at turn in
     rw (e, v) (
       pair-noted net l a b i places s f t first′ turn′ side,
-      ahead-then (pairAt net a b) l₀ l h _ (ahead-noted net l a b i places s f t first′ turn′),
+      ahead-then (pairAt net a b) l₀ l h _ _ (omega arith) (ahead-noted net l a b i places s f t first′ turn′),
     )
 
 -- a pair is kept while later ones are stored
@@ -270,52 +271,13 @@ module _ (net l l′ : List ℕ) (a b a′ b′ : ℕ) (less : a′ * countIn ne
         turn = rw (f, t) (p .turn);
       }
 
--- all pairs in turn: the pair c is that of c / n and c % n
-module _ (n c : ℕ) (h : c < n * n) where
-  pub some-flow : 0 < n
-  some-flow = elim (le-or-lt n 0) [ inl q ↦ absurd (none (omega arith)) | inr q ↦ q ]
-    where
-      none : n ≡ 0 → ⊥
-      none e = omega (arith, ap (λ x. x * x) e)
+-- the pairs of a flow in turn, and the flows
+module _ (net l l′ : List ℕ) (a : ℕ) where
+  pub pair-more : (b : ℕ) → ((j : ℕ) → j < b → PairIs net l a j) → PairIs net l′ a b → Ahead (pairAt net a b) l l′ → (j : ℕ) → j < b + 1 → PairIs net l′ a j
+  pair-more b old new h = below-more (PairIs net l′ a) b (λ j q. pair-kept net l l′ a b a j (omega arith) h (old j q)) new
 
-  pub one-less : c / n < n
-  one-less = div-lt-iff-lt-mul {k = n} {x = c} {y = n} some-flow .1 h
-
-  pub other-less : c % n < n
-  other-less = mod-lt c {m = n} some-flow
-
-  module _ (net : List ℕ) (e : n ≡ countIn net) where
-    pub pair-room : (len : ℕ) → countIn net * countIn net * pairSize net ≤ len → pairAt net (c / n) (c % n) + pairSize net ≤ len
-    pair-room len q =
-        omega (
-          arith,
-          ap (λ x. x * pairSize net) (ap (λ x. c / n * x + c % n) (sym e) ∙ div-add-mod' c n),
-          mul-le-mul-right {m = c + 1} {n = countIn net * countIn net} (pairSize net) (omega (arith, ap (λ x. x * x) e)),
-        )
-
-    pub pairs-more : (l l′ : List ℕ) → ((a b : ℕ) → a < n → b < n → a * n + b < c → PairIs net l a b) → PairIs net l′ (c / n) (c % n) →
-        Ahead (pairAt net (c / n) (c % n)) l l′ → (a b : ℕ) → a < n → b < n → a * n + b < c + 1 → PairIs net l′ a b
-    pairs-more l l′ inv p q a b u v i = elim (le-or-lt c (a * n + b)) [
-      | inl r ↦ subst (λ y. PairIs net l′ a y) (rest r) (subst (λ x. PairIs net l′ x (c % n)) (row r) p)
-      | inr r ↦ pair-kept net l l′ (c / n) (c % n) a b (before r) q (inv a b u v r)
-    ]
-      where
-        here : c ≤ a * n + b → c ≡ a * n + b
-        here r = omega arith
-
-        row : c ≤ a * n + b → c / n ≡ a
-        row r =
-            ap (λ x. x / n) (here r) ∙ mul-add-div-right {m = n} some-flow a b ∙ omega (arith, div-eq-of-lt {n = b} {m = n} v)
-
-        rest : c ≤ a * n + b → c % n ≡ b
-        rest r = ap (λ x. x % n) (here r) ∙ mul-add-mod-self-right a n b ∙ mod-eq-of-lt {n = b} {m = n} v
-
-        before : a * n + b < c → a * countIn net + b < c / n * countIn net + c % n
-        before r = omega (arith, ap (λ x. a * x) e, ap (λ x. c / n * x) e, div-add-mod' c n)
-
-pub pairs-all : (net l : List ℕ) (n c : ℕ) → n ≡ countIn net → n * n ≤ c → ((a b : ℕ) → a < n → b < n → a * n + b < c → PairIs net l a b) →
-    countIn net * countIn net * pairSize net ≤ length l → PairsAre net l
-pairs-all net l n c e h inv q = record {
-  each = λ a b u v. inv a b (omega arith) (omega arith) (omega (arith, mul-le-mul-right {m = a + 1} {n = n} n (omega arith)));
-  long = q;
-}
+  pub flow-more : ((i b : ℕ) → i < a → b < countIn net → PairIs net l i b) → ((b : ℕ) → b < countIn net → PairIs net l′ a b) →
+      Ahead (pairAt net a 0) l l′ → (i b : ℕ) → i < a + 1 → b < countIn net → PairIs net l′ i b
+  flow-more old new h i b p q =
+      below-more (λ j. PairIs net l′ j b) a
+      (λ j r. pair-kept net l l′ a 0 j b (omega (arith, mul-le-mul-right {m = j + 1} {n = a} (countIn net) (omega arith))) h (old j b r q)) (new b q) i p

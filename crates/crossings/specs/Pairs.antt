@@ -9,7 +9,7 @@ use lib.ListN.{length, getD, take}
 use Rattle.least.specs.Count.{pick}
 use Rattle.least.specs.Lists.{values, First}
 use Rattle.rules.specs.Formula.{Role, Own, Higher, Equal, Lower, role, both, higherOrEqual, firstOn}
-use Rattle.nets.specs.Nets.{countIn, roomIn, lengthIn, hopIn, pathIn, flowIn, noHop, positionOf}
+use Rattle.nets.specs.Nets.{Whole, countIn, roomIn, lengthIn, hopIn, pathIn, flowIn, noHop, positionOf}
 
 -- the place on b's path of the node at place k of a's; as many as b has nodes, if it does not pass there
 unfoldable pub placeOn : List ℕ → ℕ → ℕ → ℕ → ℕ
@@ -50,6 +50,7 @@ pub record PairIs (net pairs : List ℕ) (a b : ℕ) : Type 0 where
 pub record PairsAre (net pairs : List ℕ) : Type 0 where
   pub each : (a b : ℕ) → a < countIn net → b < countIn net → PairIs net pairs a b
   pub long : countIn net * countIn net * pairSize net ≤ length pairs
+  pub whole : Whole net
 
 -- two flows of the set, and what is noted
 pub record Noted (net pairs : List ℕ) (a b : ℕ) : Type 0 where

@@ -7,7 +7,7 @@ ghost use Rattle.least.specs.Count.{pick};
 ghost use Rattle.least.specs.Lists.{values, First};
 ghost use Rattle.rules.specs.Formula.{role, visits, crosses};
 ghost use Rattle.rules.specs.Judge.{meetsAgain, returns};
-ghost use Rattle.nets.specs.Nets.{few, countIn, roomIn, lengthIn, hopIn, pathIn, flowIn};
+ghost use Rattle.nets.specs.Nets.{few, Whole, countIn, lengthIn, hopIn, pathIn, flowIn};
 ghost use Rattle.crossings.specs.Pairs.{placeOn, costOn, sideNumber, alongTo, pairSize, pairAt, PairIs, PairsAre, Noted, Ahead};
 
 // What another flow is to this one, as a number. RULES, paths.
@@ -21,7 +21,7 @@ pub const LOWER: u64 = 3;
 
 // Where the numbers of a pair begin: the places, what b is to a, the first place shared, the place up to which b runs along a.
 fn pair_at(net: &[u16], a: usize, b: usize) -> usize
-    requires { ⌜ (a ≤ few) × (b ≤ few) ⌝ }
+    requires { ⌜ Whole (now net) × (a ≤ few) × (b ≤ few) ⌝ }
     ensures { λ r. ⌜ r ≡ pairAt (now (net .entry)) a b ⌝ }
     ensures { λ r. ⌜ r ≤ 270000 ⌝ }
 {
@@ -52,7 +52,7 @@ fn first_below(pairs: &[u8], at: usize, m: usize, bound: u64) -> usize
 
 // What b is to a.
 fn side_of(net: &[u16], a: usize, b: usize) -> u64
-    requires { ⌜ (a ≤ few) × (b ≤ few) ⌝ }
+    requires { ⌜ Whole (now net) × (a < countIn (now net)) × (b < countIn (now net)) ⌝ }
     ensures { λ r. ⌜ r ≡ sideNumber (role (flowIn (now (net .entry)) a) (flowIn (now (net .entry)) b)) ⌝ }
     ensures { λ r. ⌜ r ≤ 3 ⌝ }
 {
@@ -71,7 +71,7 @@ fn side_of(net: &[u16], a: usize, b: usize) -> u64
 }
 
 fn note_places(net: &[u16], pairs: &mut [u8], a: usize, b: usize)
-    requires { ⌜ (a ≤ few) × (b ≤ few) × (pairAt (now net) a b + pairSize (now net) ≤ length (now pairs)) ⌝ }
+    requires { ⌜ Whole (now net) × (a < countIn (now net)) × (b < countIn (now net)) × (pairAt (now net) a b + pairSize (now net) ≤ length (now pairs)) ⌝ }
     ensures { λ r. ⌜ ((k : ℕ) → k < lengthIn (now (net .entry)) a → values (now (pairs .exit)) (pairAt (now (net .entry)) a b + k) ≡ placeOn (now (net .entry)) a b k) ⌝ }
     ensures { λ r. ⌜ Ahead (pairAt (now (net .entry)) a b) (now (pairs .entry)) (now (pairs .exit)) ⌝ }
 {
@@ -96,7 +96,7 @@ fn below(pairs: &[u8], at: usize, k: usize, m: usize) -> u64
 }
 
 fn note_pair(net: &[u16], pairs: &mut [u8], a: usize, b: usize)
-    requires { ⌜ (a ≤ few) × (b ≤ few) × (pairAt (now net) a b + pairSize (now net) ≤ length (now pairs)) ⌝ }
+    requires { ⌜ Whole (now net) × (a < countIn (now net)) × (b < countIn (now net)) × (pairAt (now net) a b + pairSize (now net) ≤ length (now pairs)) ⌝ }
     ensures { λ r. ⌜ PairIs (now (net .entry)) (now (pairs .exit)) a b ⌝ }
     ensures { λ r. ⌜ Ahead (pairAt (now (net .entry)) a b) (now (pairs .entry)) (now (pairs .exit)) ⌝ }
 {
@@ -111,18 +111,31 @@ fn note_pair(net: &[u16], pairs: &mut [u8], a: usize, b: usize)
     pairs[at + w + 2] = turn as u8;
 }
 
+// Flow a with each flow.
+fn note_flow(net: &[u16], pairs: &mut [u8], a: usize)
+    requires { ⌜ Whole (now net) × (a < countIn (now net)) × (countIn (now net) * countIn (now net) * pairSize (now net) ≤ length (now pairs)) ⌝ }
+    ensures { λ r. ⌜ ((b : ℕ) → b < countIn (now (net .entry)) → PairIs (now (net .entry)) (now (pairs .exit)) a b) ⌝ }
+    ensures { λ r. ⌜ Ahead (pairAt (now (net .entry)) a 0) (now (pairs .entry)) (now (pairs .exit)) ⌝ }
+{
+    let n = nets::count(net);
+    let mut b: usize = 0;
+    while b < n {
+        note_pair(net, pairs, a, b);
+        b += 1;
+    }
+}
+
 // All pairs of a set.
 pub fn note_pairs(net: &[u16], pairs: &mut [u8])
-    requires { ⌜ countIn (now net) * countIn (now net) * pairSize (now net) ≤ length (now pairs) ⌝ }
+    requires { ⌜ Whole (now net) × (countIn (now net) * countIn (now net) * pairSize (now net) ≤ length (now pairs)) ⌝ }
     ensures { λ r. ⌜ PairsAre (now (net .entry)) (now (pairs .exit)) ⌝ }
     ensures { λ r. ⌜ length (now (pairs .exit)) ≡ length (now (pairs .entry)) ⌝ }
 {
     let n = nets::count(net);
-    let end = n * n;
-    let mut c: usize = 0;
-    while c < end {
-        note_pair(net, pairs, c / n, c % n);
-        c += 1;
+    let mut a: usize = 0;
+    while a < n {
+        note_flow(net, pairs, a);
+        a += 1;
     }
 }
 

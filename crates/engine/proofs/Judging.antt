@@ -26,15 +26,16 @@ use Rattle.flows.specs.declared.Figures.{Figures}
 use Rattle.flows.specs.declared.Row.{Row}
 use Rattle.flows.specs.declared.Cause.the-variants.{Accepted, Crossing, NoBusyLength, Unsettled, PastDeadline}
 use Rattle.flows.specs.Lists.{mostFlows, mostNodes, flowOf, held, netOf}
+use Rattle.row.specs.Rows.{placed}
 use Rattle.nets.specs.Nets.{countIn, roomIn, flowIn, netIn, noHop, noFlow, flowAt}
 use Rattle.nets.proofs.Reading.{flows-length, flow-at}
 use Rattle.nets.proofs.Places.{member-at}
+use Rattle.drawing.proofs.Drawing.{at-place}
 use Rattle.settle.specs.Good.{arrivalsIn, Rests}
 use Rattle.engine.specs.declared.Verdict.{Verdict}
 use Rattle.engine.specs.Verdicts.{noFigures, asFigures, causeOf, refused, given, verdictFrom, verdictOf, Meant}
-use Rattle.engine.specs.Firsts.{FirstIs, placed, FiguresUpTo, deadlineAt, boundAt, DeadlinesIs}
-use Rattle.engine.specs.Findings.{crossed, overloaded, Clear, FirstAt, Heavy, Outcome}
-use Rattle.engine.proofs.Firsts.{at-place}
+use Rattle.engine.specs.Firsts.{FiguresUpTo, deadlineAt, boundAt, DeadlinesIs}
+use Rattle.findings.specs.Findings.{FirstIs, crossed, overloaded, Clear, FirstAt, Heavy, Outcome}
 
 -- the first flow at fault, by place
 first-or : (p : rules.Flow → Bool) (f : ℕ → Judgement) (other : Judgement) (l : List rules.Flow) (d : rules.Flow) (q : ℕ → Bool) (r : ℕ) →

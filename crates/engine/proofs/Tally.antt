@@ -15,10 +15,11 @@ use Rattle.flows.specs.declared.Flow.{Flow}
 use Rattle.flows.specs.declared.Figures.{Figures}
 use Rattle.flows.specs.declared.Row.{Row}
 use Rattle.flows.specs.Lists.{mostNodes, hopsOf, pathOf}
+use Rattle.row.specs.Rows.{placed}
 use Rattle.flows.proofs.Arrays.{nowhere, length-hops, path-at}
 use Rattle.least.specs.Lists.{values}
 use Rattle.engine.specs.Verdicts.{noFigures}
-use Rattle.engine.specs.Firsts.{hopAt, figureOf, placed, figureAt, FiguresUpTo}
+use Rattle.engine.specs.Firsts.{hopAt, figureOf, figureAt, FiguresUpTo}
 
 -- the cost at a place
 module _ (f : Flow) (nodes : length (f .nodes) ≡ mostNodes) (costs : length (f .costs) ≡ mostNodes) (k : ℕ) (h : k < length (pathOf f)) where

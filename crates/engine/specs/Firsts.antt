@@ -1,6 +1,5 @@
--- The first flow at fault, and the figures of each flow, as loops find them.
+-- The figures of each flow, and the first flow past its deadline, as loops find them.
 use mathlib.Core.Path.{_≡_}
-use mathlib.Core.Bool.{Bool, true, false}
 use mathlib.Core.List.{List}
 use Prim.Native.Nat.{ℕ, _+_, _-_, _*_, _≤_, _<_}
 use lib.ListN.{length, getD}
@@ -10,18 +9,14 @@ use Rattle.rules.specs.Formula.{least}
 use Rattle.flows.specs.declared.Flow.{Flow}
 use Rattle.flows.specs.declared.Figures.{Figures}
 use Rattle.flows.specs.declared.Row.{Row}
-use Rattle.flows.specs.Lists.{mostNodes, noFlow, pathOf, held}
+use Rattle.flows.specs.Lists.{mostNodes, pathOf, held}
+use Rattle.row.specs.Rows.{placed}
 use Rattle.least.specs.Lists.{values}
 use lib.Dec.{ltb}
 use Rattle.flows.specs.declared.Cause.the-variants.{Accepted, PastDeadline}
+use Rattle.findings.specs.Findings.{FirstIs}
 use Rattle.engine.specs.declared.Verdict.{Verdict}
 use Rattle.engine.specs.Verdicts.{noFigures, refused}
-
--- r is the first below n that fails a test, or n if none does
-pub record FirstIs (p : ℕ → Bool) (n r : ℕ) : Type 0 where
-  pub most : r ≤ n
-  pub before : (k : ℕ) → k < r → p k ≡ false
-  pub fails : r < n → p r ≡ true
 
 -- the node and the cost at place k of the path
 abbrev pub hopAt : Flow → ℕ → Hop
@@ -31,10 +26,7 @@ hopAt f k = getD (pathOf f) k (record { node = 0; cost = 0 })
 abbrev pub figureOf : Flow → ℕ → ℕ → ℕ → Figures
 figureOf f lmin bound busy = record { bound = bound; jitter = bound - (sumOf least (pathOf f) + (length (pathOf f) - 1) * lmin); busy = busy }
 
--- the flow at place k of a row; the response bound at its last node, and its busy length
-abbrev pub placed : Row → ℕ → Flow
-placed row k = getD (held row) k noFlow
-
+-- the flow at place k of a row: the response bound at its last node, and its busy length
 abbrev pub figureAt : Row → ℕ → List ℕ → List ℕ → ℕ → Figures
 figureAt row lmin replies busies k =
     figureOf (placed row k) lmin (values replies (k * mostNodes + (length (pathOf (placed row k)) - 1))) (values busies k)

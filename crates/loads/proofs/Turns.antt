@@ -95,15 +95,15 @@ module _ (net : List ℕ) (a : ℕ) where
   pub weighed-end : (weights : List ℕ) (n b : ℕ) → Weighed net weights a b → n ≡ countIn net → b ≤ n → n ≤ b → Weighed net weights a (countIn net)
   weighed-end weights n b inv len p q = let e : b ≡ countIn net = omega arith in subst (Weighed net weights a) e inv
 
--- the sum over the flows: c is a flow's count of packets, w its weight
+-- the sum over the flows: c is a flow's count of packets, w b its weight
 module _ (net : List ℕ) (w : ℕ → ℕ) (x : ℕ) where
   pub load-start : 0 ≡ sumTo 0 (packetsIn net w x)
   unfolding sumTo
   load-start = omega arith
 
   module _ (b sum : ℕ) (inv : sum ≡ sumTo b (packetsIn net w x)) where
-    pub load-more : (t c s : ℕ) → t ≡ fieldIn net b 2 → c ≡ ceil x t → s ≡ w b → sum + c * s ≡ sumTo (b + 1) (packetsIn net w x)
-    load-more t c s p q r = ap₂ (λ u v. u + v) inv (ap₂ (λ u v. u * v) (q ∙ ap (ceil x) p) r) ∙ sym (sum-to-more (packetsIn net w x) b)
+    pub load-more : (t c : ℕ) → t ≡ fieldIn net b 2 → c ≡ ceil x t → sum + c * w b ≡ sumTo (b + 1) (packetsIn net w x)
+    load-more t c p q = ap₂ (λ u v. u + v * w b) inv (q ∙ ap (ceil x) p) ∙ sym (sum-to-more (packetsIn net w x) b)
 
     pub load-end : (n : ℕ) → n ≡ countIn net → b ≤ n → n ≤ b → sum ≡ loadBy net w x
     unfolding loadBy

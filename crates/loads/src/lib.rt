@@ -6,7 +6,7 @@ ghost use Rattle.least.specs.Count.{ceil};
 ghost use Rattle.least.specs.Lists.{values};
 ghost use Rattle.rules.specs.Judge.{busyLength, misplaced};
 ghost use Rattle.rules.specs.Valid.{Valid};
-ghost use Rattle.nets.specs.Nets.{countIn, flowIn, netIn};
+ghost use Rattle.nets.specs.Nets.{Whole, countIn, flowIn, netIn};
 ghost use Rattle.crossings.specs.Pairs.{Noted};
 ghost use Rattle.loads.specs.Load.{slowestOn, weightIn, Weighed, loadBy, straysIn};
 
@@ -68,7 +68,7 @@ fn ceil_of(x: u64, t: u64) -> u64
 
 // The sum of which the busy length is the least solution, from the weights.
 fn load(net: &[u16], weights: &[u64], x: u64) -> u64
-    requires { ⌜ (x ≤ 65536) × ((b : ℕ) → b < countIn (now net) → values (now weights) b ≤ 65535) ⌝ }
+    requires { ⌜ Whole (now net) × (countIn (now net) ≤ length (now weights)) × (x ≤ 65536) × ((b : ℕ) → b < countIn (now net) → values (now weights) b ≤ 65535) ⌝ }
     ensures { λ r. ⌜ r ≡ loadBy (now (net .entry)) (values (now (weights .entry))) x ⌝ }
     ensures { λ r. ⌜ r ≤ 63 * (65536 * 65535) ⌝ }
 {
@@ -76,7 +76,7 @@ fn load(net: &[u16], weights: &[u64], x: u64) -> u64
     let mut sum: u64 = 0;
     let mut b: usize = 0;
     while b < n {
-        sum += ceil_of(x, nets::period(net, b)) * least::at(weights, b);
+        sum += ceil_of(x, nets::period(net, b)) * weights[b];
         b += 1;
     }
     sum

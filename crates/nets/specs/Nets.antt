@@ -2,7 +2,7 @@
 -- the room for nodes that each has, Lmin, Lmax; then for each flow its number, priority, T, J, D, path length, and a node and a cost for
 -- each place of its room.
 use mathlib.Core.List.{List, []}
-use Prim.Native.Nat.{ℕ, _+_, _*_, min}
+use Prim.Native.Nat.{ℕ, _+_, _*_, _≤_, min}
 use lib.ListN.{length, getD}
 use Rattle.least.specs.Lists.{values, listTo}
 use Rattle.rules.specs.Net.{Hop, Flow, Net}
@@ -17,6 +17,10 @@ countIn net = min few (values net 0)
 
 abbrev pub roomIn : List ℕ → ℕ
 roomIn net = min few (values net 1)
+
+-- the numbers of every flow are there
+abbrev pub Whole : List ℕ → Type 0
+Whole net = 4 + countIn net * (6 + 2 * roomIn net) ≤ length net
 
 -- number k of flow a
 unfoldable pub fieldIn : List ℕ → ℕ → ℕ → ℕ

@@ -1,50 +1,54 @@
 // A set of flows as lent numbers, read by flow and place. RULES, paths.
 ghost use mathlib.Core.Path.{_≡_};
-ghost use Prim.Native.Nat.{_+_, _*_, _≤_};
+ghost use Prim.Native.Nat.{_+_, _*_, _≤_, _<_};
 ghost use Rattle.least.specs.Lists.{values};
-ghost use Rattle.nets.specs.Nets.{few, countIn, roomIn, fieldIn, lengthIn, hopIn, pathIn, positionOf};
+ghost use Rattle.nets.specs.Nets.{few, Whole, countIn, roomIn, fieldIn, lengthIn, hopIn, pathIn, positionOf};
 
 // How many flows there are.
 pub fn count(net: &[u16]) -> usize
+    requires { ⌜ Whole (now net) ⌝ }
     ensures { λ r. ⌜ r ≡ countIn (now (net .entry)) ⌝ }
     ensures { λ r. ⌜ r ≤ few ⌝ }
 {
-    least::lesser(63, least::at_short(net, 0)) as usize
+    least::lesser(63, least::short(net[0])) as usize
 }
 
 // The room for nodes that each has.
 pub fn room(net: &[u16]) -> usize
+    requires { ⌜ Whole (now net) ⌝ }
     ensures { λ r. ⌜ r ≡ roomIn (now (net .entry)) ⌝ }
     ensures { λ r. ⌜ r ≤ few ⌝ }
 {
-    least::lesser(63, least::at_short(net, 1)) as usize
+    least::lesser(63, least::short(net[1])) as usize
 }
 
 // Number k of flow a.
 fn field(net: &[u16], a: usize, k: usize) -> u64
-    requires { ⌜ (a ≤ few) × (k ≤ 133) ⌝ }
+    requires { ⌜ Whole (now net) × (a < countIn (now net)) × (k < 6 + 2 * roomIn (now net)) ⌝ }
     ensures { λ r. ⌜ r ≡ fieldIn (now (net .entry)) a k ⌝ }
     ensures { λ r. ⌜ r ≤ 65535 ⌝ }
 {
-    least::at_short(net, 4 + a * (6 + 2 * room(net)) + k)
+    least::short(net[4 + a * (6 + 2 * room(net)) + k])
 }
 
 pub fn lmin(net: &[u16]) -> u64
+    requires { ⌜ Whole (now net) ⌝ }
     ensures { λ r. ⌜ r ≡ values (now (net .entry)) 2 ⌝ }
     ensures { λ r. ⌜ r ≤ 65535 ⌝ }
 {
-    least::at_short(net, 2)
+    least::short(net[2])
 }
 
 pub fn lmax(net: &[u16]) -> u64
+    requires { ⌜ Whole (now net) ⌝ }
     ensures { λ r. ⌜ r ≡ values (now (net .entry)) 3 ⌝ }
     ensures { λ r. ⌜ r ≤ 65535 ⌝ }
 {
-    least::at_short(net, 3)
+    least::short(net[3])
 }
 
 pub fn number(net: &[u16], a: usize) -> u64
-    requires { ⌜ a ≤ few ⌝ }
+    requires { ⌜ Whole (now net) × (a < countIn (now net)) ⌝ }
     ensures { λ r. ⌜ r ≡ fieldIn (now (net .entry)) a 0 ⌝ }
     ensures { λ r. ⌜ r ≤ 65535 ⌝ }
 {
@@ -52,7 +56,7 @@ pub fn number(net: &[u16], a: usize) -> u64
 }
 
 pub fn priority(net: &[u16], a: usize) -> u64
-    requires { ⌜ a ≤ few ⌝ }
+    requires { ⌜ Whole (now net) × (a < countIn (now net)) ⌝ }
     ensures { λ r. ⌜ r ≡ fieldIn (now (net .entry)) a 1 ⌝ }
     ensures { λ r. ⌜ r ≤ 65535 ⌝ }
 {
@@ -60,7 +64,7 @@ pub fn priority(net: &[u16], a: usize) -> u64
 }
 
 pub fn period(net: &[u16], a: usize) -> u64
-    requires { ⌜ a ≤ few ⌝ }
+    requires { ⌜ Whole (now net) × (a < countIn (now net)) ⌝ }
     ensures { λ r. ⌜ r ≡ fieldIn (now (net .entry)) a 2 ⌝ }
     ensures { λ r. ⌜ r ≤ 65535 ⌝ }
 {
@@ -68,7 +72,7 @@ pub fn period(net: &[u16], a: usize) -> u64
 }
 
 pub fn jitter(net: &[u16], a: usize) -> u64
-    requires { ⌜ a ≤ few ⌝ }
+    requires { ⌜ Whole (now net) × (a < countIn (now net)) ⌝ }
     ensures { λ r. ⌜ r ≡ fieldIn (now (net .entry)) a 3 ⌝ }
     ensures { λ r. ⌜ r ≤ 65535 ⌝ }
 {
@@ -77,7 +81,7 @@ pub fn jitter(net: &[u16], a: usize) -> u64
 
 // How many nodes the path of flow a has: at most as many as there is room for.
 pub fn hops(net: &[u16], a: usize) -> usize
-    requires { ⌜ a ≤ few ⌝ }
+    requires { ⌜ Whole (now net) × (a < countIn (now net)) ⌝ }
     ensures { λ r. ⌜ r ≡ lengthIn (now (net .entry)) a ⌝ }
     ensures { λ r. ⌜ (r ≤ roomIn (now (net .entry))) × (r ≤ few) ⌝ }
 {
@@ -85,7 +89,7 @@ pub fn hops(net: &[u16], a: usize) -> usize
 }
 
 pub fn node(net: &[u16], a: usize, k: usize) -> u64
-    requires { ⌜ (a ≤ few) × (k ≤ few) ⌝ }
+    requires { ⌜ Whole (now net) × (a < countIn (now net)) × (k < roomIn (now net)) ⌝ }
     ensures { λ r. ⌜ r ≡ hopIn (now (net .entry)) a k .node ⌝ }
     ensures { λ r. ⌜ r ≤ 65535 ⌝ }
 {
@@ -93,7 +97,7 @@ pub fn node(net: &[u16], a: usize, k: usize) -> u64
 }
 
 pub fn cost(net: &[u16], a: usize, k: usize) -> u64
-    requires { ⌜ (a ≤ few) × (k ≤ few) ⌝ }
+    requires { ⌜ Whole (now net) × (a < countIn (now net)) × (k < roomIn (now net)) ⌝ }
     ensures { λ r. ⌜ r ≡ hopIn (now (net .entry)) a k .cost ⌝ }
     ensures { λ r. ⌜ r ≤ 65535 ⌝ }
 {
@@ -102,7 +106,7 @@ pub fn cost(net: &[u16], a: usize, k: usize) -> u64
 
 // The place of a node on the path of flow b: how many stand before it.
 pub fn position(net: &[u16], b: usize, h: u64) -> usize
-    requires { ⌜ b ≤ few ⌝ }
+    requires { ⌜ Whole (now net) × (b < countIn (now net)) ⌝ }
     ensures { λ r. ⌜ r ≡ positionOf h (pathIn (now (net .entry)) b) ⌝ }
     ensures { λ r. ⌜ (r ≤ lengthIn (now (net .entry)) b) × (r ≤ few) ⌝ }
 {

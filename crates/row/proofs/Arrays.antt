@@ -13,7 +13,7 @@ use Rattle.flows.specs.declared.Flow.{Flow}
 use Rattle.flows.specs.declared.Row.{Row}
 use Rattle.flows.specs.Lists.{mostFlows, noFlow, held, rowOf}
 use Rattle.row.specs.declared.Found.the-variants.{At, Nothing}
-use Rattle.row.specs.Rows.{firstOf, placeOf, rankOf, foundIn, appended, lastNumber, entryCause}
+use Rattle.row.specs.Rows.{placed, firstOf, placeOf, rankOf, foundIn, appended, lastNumber, entryCause}
 use Rattle.flows.specs.declared.Cause.{Cause}
 use Rattle.flows.specs.declared.Cause.the-variants.{Accepted, Present, Full}
 use Rattle.flows.specs.Refusals.{acceptedBy}
@@ -60,6 +60,14 @@ module _ (row : Row) (len : length (row .flows) ≡ mostFlows) where
   pub held-at : (k : ℕ) (d : Flow) → k < length (held row) → getD (held row) k d ≡ getD (row .flows) k d
   unfolding held
   held-at k d h = used-at (row .flows) (row .count) k d h
+
+  module _ (k : ℕ) (h : k < length (held row)) where
+    pub place-held : k < mostFlows
+    unfolding held
+    place-held = omega (arith, length-take (row .count) (row .flows))
+
+    pub flow-held : (d : Flow) → getD (row .flows) k d ≡ placed row k
+    flow-held d = sym (held-at k d h) ∙ getD-any (held row) k d noFlow h
 
 pub take-counted : {A : Type 0} (l : List A) (k m : ℕ) → m ≡ length (take k l) → take m l ≡ take k l
 take-counted l zero m e = rw e

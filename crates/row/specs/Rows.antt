@@ -14,6 +14,10 @@ use Rattle.flows.specs.Tests.{flowCause}
 use Rattle.row.specs.declared.Found.{Found}
 use Rattle.row.specs.declared.Found.the-variants.{At, Nothing}
 
+-- the flow at a place
+abbrev pub placed : Row → ℕ → Flow
+placed row k = getD (held row) k noFlow
+
 -- how many elements stand before the first that passes a test
 unfoldable pub firstOf : {A : Type 0} → (A → Bool) → List A → ℕ
 firstOf p [] = 0

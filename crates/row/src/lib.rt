@@ -10,7 +10,7 @@ ghost use lib.ListN.{length, take, drop};
 ghost use Rattle.flows.specs.declared.Flow.{Flow};
 ghost use Rattle.flows.specs.Lists.{mostFlows, held, rowOf};
 ghost use Rattle.flows.specs.WellFormed.{Exact, Typed};
-ghost use Rattle.row.specs.Rows.{placeOf, rankOf, foundIn, without, inserted, appended, lastNumber, entryCause};
+ghost use Rattle.row.specs.Rows.{placed, placeOf, rankOf, foundIn, without, inserted, appended, lastNumber, entryCause};
 ghost use Rattle.row.specs.Sets.{OfEntry};
 
 pub enum Found {
@@ -28,6 +28,13 @@ pub fn size(row: Row) -> usize
         return FLOWS;
     }
     n
+}
+
+pub fn flow_at(row: Row, k: usize) -> Flow
+    requires { ⌜ k < length (held row) ⌝ }
+    ensures { λ r. ⌜ r ≡ placed row k ⌝ }
+{
+    row.flows[k]
 }
 
 pub fn none() -> Row

@@ -21,7 +21,7 @@ use Rattle.rules.specs.Net.{Flow}
 use Rattle.rules.specs.Formula.{Role, Own, Higher, Equal, Lower, role, higherOrEqual, crosses}
 use Rattle.nets.specs.Nets.{countIn, roomIn, lengthIn, flowIn, flowsIn, noFlow}
 use Rattle.crossings.specs.Pairs.{sideNumber}
-use Rattle.starts.specs.Sheet.{mostTime, entriesIn, Small}
+use Rattle.blocks.specs.Sheet.{mostTime, entriesIn, Small}
 use Rattle.starts.specs.Kept.{stepsAt}
 use Rattle.starts.specs.Runs.{LowTo}
 use Rattle.starts.proofs.Nodes.{set-cases}

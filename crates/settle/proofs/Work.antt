@@ -21,7 +21,7 @@ use Rattle.rules.specs.Judge.{busyLength}
 use Rattle.rules.specs.Ready.{Ready}
 use Rattle.nets.specs.Nets.{countIn, roomIn, lengthIn, netIn, flowAt}
 use Rattle.nets.proofs.Reading.{path-length, flows-length, flow-at}
-use Rattle.starts.specs.Sheet.{mostTime}
+use Rattle.blocks.specs.Sheet.{mostTime}
 use Rattle.starts.specs.Runs.{ResponsesAre}
 use Rattle.starts.proofs.Nodes.{set-cases}
 use Rattle.sheets.specs.Fields.{SheetIs}

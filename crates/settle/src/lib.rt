@@ -4,7 +4,7 @@ ghost use mathlib.Core.Bool.{true, false};
 ghost use Prim.Native.Nat.{ℕ, _+_, _*_, _<_, _≤_};
 ghost use lib.ListN.{length};
 ghost use Rattle.least.specs.Lists.{values};
-ghost use Rattle.nets.specs.Nets.{few, countIn, flowIn};
+ghost use Rattle.nets.specs.Nets.{few, Whole, countIn, flowIn};
 ghost use Rattle.crossings.specs.Pairs.{PairsAre, Noted};
 ghost use Rattle.ways.specs.Ways.{WaysAre};
 ghost use Rattle.starts.specs.Runs.{LowTo};
@@ -114,11 +114,11 @@ fn comes_next(last: usize, chosen: usize, b: usize) -> bool {
 
 // Flow b, if it is marked and more urgent than the one chosen, or as urgent and next in the round; n stands for none.
 fn prefer(net: &[u16], marks: &[u64], last: usize, chosen: usize, b: usize, n: usize) -> usize
-    requires { ⌜ (b < n) × (n ≤ few) × (chosen ≤ n) ⌝ }
+    requires { ⌜ Whole (now net) × (n ≡ countIn (now net)) × (n ≤ length (now marks)) × (b < n) × (chosen ≤ n) ⌝ }
     ensures { λ r. ⌜ (ChosenIs (now (marks .entry)) n b chosen → ChosenIs (now (marks .entry)) n (b + 1) r) ⌝ }
     ensures { λ r. ⌜ r ≤ n ⌝ }
 {
-    if least::at(marks, b) == 0 {
+    if marks[b] == 0 {
         return chosen;
     }
     if n <= chosen {
@@ -140,6 +140,7 @@ fn prefer(net: &[u16], marks: &[u64], last: usize, chosen: usize, b: usize, n: u
 
 // A marked flow of greatest priority, of several the next after last, so that each gets its turn; as many as there are if none is marked.
 fn choose(net: &[u16], marks: &[u64], last: usize) -> usize
+    requires { ⌜ Whole (now net) × (countIn (now net) ≤ length (now marks)) ⌝ }
     ensures { λ r. ⌜ ChosenIs (now (marks .entry)) (countIn (now (net .entry))) (countIn (now (net .entry))) r ⌝ }
 {
     let n = nets::count(net);

@@ -9,7 +9,7 @@ use lib.ListN.{length, getD, set, length-append, length-set, List·getD-append}
 use lib.Seq.{getD-set-same, getD-set-other, getD-at}
 use Rattle.least.specs.Lists.{values}
 use Rattle.least.proofs.Count.{le-or-lt}
-use Rattle.starts.specs.Sheet.{blockAt, entriesIn, entryAt, Small}
+use Rattle.blocks.specs.Sheet.{nodeSlot, blockAt, entriesIn, entryAt, Small, Fit}
 use Rattle.sheets.specs.Fields.{Entry, noEntry, EntryIs, Listed}
 use Rattle.sheets.specs.Blocks.{blockSize, beginOf, Frame, Appended, entryFrom, GrownAt, Grown, Roomy}
 
@@ -20,11 +20,15 @@ apart s k p i j d h g e = elim (le-or-lt p k) [
   | inr q ↦ omega (arith, mul-le-mul-right {m = k + 1} {n = p} s (omega arith))
 ]
 
+pub long-less : (n m p l : ℕ) → p < m → 1 + m * blockSize n ≤ l → 1 + (p + 1) * blockSize n ≤ l
+long-less n m p l h g = omega (arith, mul-le-mul-right {m = p + 1} {n = m} (blockSize n) (omega arith))
+
 pub frame-less : {n m : ℕ} {e : List ℕ} (p : ℕ) → p < m → Frame n m e → Frame n (p + 1) e
-frame-less {n} {m} p h f = record {
+frame-less {n} {m} {e} p h f = record {
   size = f .size;
-  long = omega (arith, f .long, mul-le-mul-right {m = p + 1} {n = m} (blockSize n) (omega arith));
+  long = long-less n m p (length e) h (f .long);
   small = f .small;
+  looks = λ k q i g. f .looks k q (omega arith) g;
 }
 
 pub small-set : (l : List ℕ) (i x : ℕ) → i < length l → x < 16777216 → Small l → Small (set l i x)
@@ -40,6 +44,10 @@ small-set l i x h q s k = elim (le-or-lt k i) [
 abbrev pub Within : ℕ → ℕ → List ℕ → List ℕ → Type 0
 Within n p e e′ = (j : ℕ) → (beginOf n p ≤ j → j < beginOf n p + blockSize n → ⊥) → values e′ j ≡ values e j
 
+-- where the entries of block p look
+abbrev LooksAt : List ℕ → ℕ → Type 0
+LooksAt e p = (q : ℕ) → q < entriesIn e p → values e (entryAt e p q) < nodeSlot p
+
 -- the numbers of block k are the same
 abbrev pub Kept : ℕ → ℕ → List ℕ → List ℕ → Type 0
 Kept n k e e′ = (i : ℕ) → i < blockSize n → values e′ (blockAt e′ k + i) ≡ values e (blockAt e k + i)
@@ -47,9 +55,6 @@ Kept n k e e′ = (i : ℕ) → i < blockSize n → values e′ (blockAt e′ k 
 module _ (n p : ℕ) (e e′ : List ℕ) (w : Within n p e e′) where
   pub within-size : values e′ 0 ≡ values e 0
   within-size = w 0 (λ g h. omega arith)
-
-  pub within-frame : (m : ℕ) → length e′ ≡ length e → Small e′ → Frame n m e → Frame n m e′
-  within-frame m l s f = record { size = within-size ∙ f .size; long = omega (arith, f .long); small = s }
 
   pub within-kept : values e 0 ≡ blockSize n → (k : ℕ) → (k ≡ p → ⊥) → Kept n k e e′
   within-kept z k d i h =
@@ -64,6 +69,10 @@ module _ (n k : ℕ) (e e′ : List ℕ) (same : Kept n k e e′) where
 
   pub kept-count : entriesIn e′ k ≡ entriesIn e k
   kept-count = same 2 (omega arith)
+
+  kept-looks : entriesIn e k ≤ n → LooksAt e k → LooksAt e′ k
+  kept-looks h L q g =
+      omega (arith, kept-at (3 + q * 5) (entryAt e′ k q) (entryAt e k q) (omega arith) (omega arith) (omega (arith, kept-count)), L q (omega (arith, kept-count)))
 
   pub kept-entry : (q : ℕ) (x : Entry) → q < n → EntryIs e (entryAt e k q) x → EntryIs e′ (entryAt e′ k q) x
   kept-entry q x h E = record {
@@ -145,6 +154,12 @@ module _ (n p : ℕ) (x : Entry) (e e′ : List ℕ) (A : Appended n p x e e′)
   newest q h =
       let z : beginOf n p + 3 + 5 * values e (beginOf n p + 2) ≡ entryAt e′ p q = omega (arith, begins, count-begin) in
       subst (λ k. EntryIs e′ k x) z (A .entry)
+
+  appended-looks : x .look < nodeSlot p → LooksAt e p → LooksAt e′ p
+  appended-looks h L q g = elim (le-or-lt (entriesIn e p) q) [
+    | inl i ↦ omega (arith, newest q (omega (arith, counted)) .look)
+    | inr i ↦ omega (arith, at-still (3 + q * 5) (entryAt e′ p q) (entryAt e p q) (omega arith) (omega arith) (λ z. omega arith) (omega arith), L q i)
+  ]
 
   more : (l : List Entry) → Listed e p l → Listed e′ p (l ++ (x ∷ []))
   more l L = record {
@@ -266,23 +281,50 @@ module _ {Q : Type 0} {n m : ℕ} {x : ℕ → List Entry} {e₀ : List ℕ} whe
       pub going-room : entriesIn e p < n
       going-room = omega (arith, kept-count n p e₀ e (G .rest p (omega arith) on), roomy .room p on)
 
-      pub going-more : {e′ : List ℕ} {y z : Entry} → x p ≡ z ∷ [] → Appended n p y e e′ → length e′ ≡ length e → (Q → y ≡ z) →
+      going-few : (k : ℕ) → k < m → entriesIn e k ≤ n
+      going-few k i = elim (le-or-lt p k) [
+        | inl g ↦ omega (arith, kept-count n k e₀ e (G .rest k g i), roomy .room k i)
+        | inr g ↦ omega (arith, G .done k g i .few, roomy .room k i)
+      ]
+
+      pub going-more : {e′ : List ℕ} {y z : Entry} → x p ≡ z ∷ [] → Appended n p y e e′ → length e′ ≡ length e → y .look < nodeSlot p → (Q → y ≡ z) →
           Going Q n m x e₀ e′ (p + 1)
-      going-more {e′} {y} {z} one A len eq = record {
-        frame = within-frame n p e e′ within m len (A .small) (G .frame);
+      going-more {e′} {y} {z} one A len back eq = record {
+        frame = record {
+          size = within-size n p e e′ within ∙ G .frame .size;
+          long = omega (arith, G .frame .long);
+          small = A .small;
+          looks = looks;
+        };
         done = λ k h i. elim (le-or-lt p k) [
           | inl g ↦
               let s : p ≡ k = omega arith in
               subst (λ k. GrownAt Q k (x k) e₀ e′) s (subst (λ l. GrownAt Q p l e₀ e′) (sym one) here)
           | inr g ↦
-              grown-kept n k e₀ e e′ (omega (arith, G .done k g i .few, roomy .room k i)) (G .done k g i)
-              (within-kept n p e e′ within (G .frame .size) k (λ s. omega arith))
+              grown-kept n k e₀ e e′ (going-few k i) (G .done k g i) (other k (λ s. omega arith))
         ];
-        rest = λ k h i j g. within-kept n p e e′ within (G .frame .size) k (λ s. omega arith) j g ∙ G .rest k (omega arith) i j g;
+        rest = λ k h i j g. other k (λ s. omega arith) j g ∙ G .rest k (omega arith) i j g;
       }
         where
           within : Within n p e e′
           within = appended-within n p y e e′ A (G .frame .size) going-room
+
+          other : (k : ℕ) → (k ≡ p → ⊥) → Kept n k e e′
+          other = within-kept n p e e′ within (G .frame .size)
+
+          away : (k : ℕ) → (k ≡ p → ⊥) → k < m → LooksAt e′ k
+          away k d i = kept-looks n k e e′ (other k d) (going-few k i) (λ q. G .frame .looks k q i)
+
+          looks : Fit e′ m
+          looks k q i h = elim (le-or-lt p k) [
+            | inl g ↦ elim (le-or-lt k p) [
+              | inl f ↦
+                  let s : p ≡ k = omega arith in
+                  subst (LooksAt e′) s (appended-looks n p y e e′ A (G .frame .size) going-room back (λ j. G .frame .looks p j on)) q h
+              | inr f ↦ away k (λ s. omega arith) i q h
+            ]
+            | inr g ↦ away k (λ s. omega arith) i q h
+          ]
 
           here : GrownAt Q p (z ∷ []) e₀ e′
           here =
@@ -295,19 +337,28 @@ pub record Head (Q : Type 0) (x y : ℕ) (e : List ℕ) (p : ℕ) : Type 0 where
   pub base : Q → values e (blockAt e p) ≡ x
   pub added : Q → values e (blockAt e p + 1) ≡ y
 
+-- of m blocks those before p; the others hold what stood there
 pub record Heads (Q : Type 0) (n m : ℕ) (base add : ℕ → ℕ) (e : List ℕ) (p : ℕ) : Type 0 where
-  pub frame : Frame n m e
+  pub size : values e 0 ≡ blockSize n
+  pub long : 1 + m * blockSize n ≤ length e
+  pub small : Small e
   pub heads : (k : ℕ) → k < p → k < m → Head Q (base k) (add k) e k
 
 module _ {Q : Type 0} {n m : ℕ} {base add : ℕ → ℕ} where
+  pub heads-frame : {e : List ℕ} {p : ℕ} → m ≤ p → Heads Q n m base add e p → Frame n m e
+  heads-frame h H = record {
+    size = H .size;
+    long = H .long;
+    small = H .small;
+    looks = λ k q i g. absurd (omega (arith, H .heads k (omega arith) i .none));
+  }
+
   pub heads-none : (e : List ℕ) → 1 + m * blockSize n ≤ length e → n ≤ 63 → Small e → (size : ℕ) → size ≡ blockSize n →
       Heads Q n m base add (set e 0 size) 0
   heads-none e h few s size z = record {
-    frame = record {
-      size = getD-set-same e 0 size 0 (omega arith) ∙ z;
-      long = simp length-set h;
-      small = small-set e 0 size (omega arith) (omega arith) s;
-    };
+    size = getD-set-same e 0 size 0 (omega arith) ∙ z;
+    long = simp length-set h;
+    small = small-set e 0 size (omega arith) (omega arith) s;
     heads = λ k g i. absurd (omega arith);
   }
 
@@ -315,11 +366,13 @@ module _ {Q : Type 0} {n m : ℕ} {base add : ℕ → ℕ} where
       (Q → x ≡ base p) → (Q → y ≡ add p) →
       Heads Q n m base add (set (set (set e at x) (at + 1) y) (at + 2) 0) (p + 1)
   heads-more {e} {p} at x y H on begins sx sy bx ay = record {
-    frame = within-frame n p e e′ within m (simp length-set) small (H .frame);
+    size = within-size n p e e′ within ∙ H .size;
+    long = simp length-set (H .long);
+    small = small;
     heads = λ k h i. elim (le-or-lt p k) [
       | inl g ↦ let s : p ≡ k = omega arith in subst (λ k. Head Q (base k) (add k) e′ k) s here
       | inr g ↦
-          let s = within-kept n p e e′ within (H .frame .size) k (λ s. omega arith) in
+          let s = within-kept n p e e′ within (H .size) k (λ s. omega arith) in
           record {
             none = kept-count n k e e′ s ∙ H .heads k g i .none;
             base = λ u. kept-at n k e e′ s 0 (blockAt e′ k) (blockAt e k) (omega arith) (omega arith) (omega arith) ∙ H .heads k g i .base u;
@@ -338,7 +391,7 @@ module _ {Q : Type 0} {n m : ℕ} {base add : ℕ → ℕ} where
       e′ = set e₂ (at + 2) 0
 
       fits : at + 3 ≤ length e
-      fits = omega (arith, frame-less p on (H .frame) .long)
+      fits = omega (arith, long-less n m p (length e) on (H .long))
 
       within : Within n p e e′
       within j h =
@@ -348,10 +401,10 @@ module _ {Q : Type 0} {n m : ℕ} {base add : ℕ → ℕ} where
       small : Small e′
       small =
           small-set e₂ (at + 2) 0 (simp length-set (omega (arith, fits))) (omega arith)
-          (small-set e₁ (at + 1) y (simp length-set (omega (arith, fits))) sy (small-set e at x (omega (arith, fits)) sx (H .frame .small)))
+          (small-set e₁ (at + 1) y (simp length-set (omega (arith, fits))) sy (small-set e at x (omega (arith, fits)) sx (H .small)))
 
       begun : blockAt e′ p ≡ at
-      begun = ap (λ s. 1 + p * s) (within-size n p e e′ within ∙ H .frame .size) ∙ sym begins
+      begun = ap (λ s. 1 + p * s) (within-size n p e e′ within ∙ H .size) ∙ sym begins
 
       here : Head Q (base p) (add p) e′ p
       here = record {

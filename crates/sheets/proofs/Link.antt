@@ -20,7 +20,7 @@ use Rattle.rules.proofs.Path.{prefix-visits, visits-here, visits-there, visits-
 use Rattle.rules.proofs.Shared.{shared, slowest-shared, first-of-shared, first-on-shared, last-on-shared, uncrossed-nothing}
 use Rattle.nets.specs.Nets.{noFlow, flowAt, positionOf}
 use Rattle.nets.proofs.Sets.{flow-here, one-place, one-flow, own-role, own-number}
-use Rattle.starts.specs.Sheet.{hereSlot, instantSlot, nodeSlot, entriesIn, entryAt, termOf, seen}
+use Rattle.blocks.specs.Sheet.{hereSlot, instantSlot, nodeSlot, entriesIn, entryAt, termOf, seen}
 use Rattle.sheets.specs.Fields.{Entry, noEntry, termBy, arrivalBy, entryOf, counted, entriesTo, EntryIs, Listed, responsesIn}
 use Rattle.sheets.proofs.Places.{arrival-is}
 

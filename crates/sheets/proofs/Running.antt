@@ -27,7 +27,7 @@ use Rattle.crossings.proofs.Meeting.{cross-first, place-is, place-passes}
 use Rattle.crossings.proofs.Turns.{least-shared, first-shared}
 use Rattle.crossings.proofs.Costs.{slowest-to, own-cost, own-slowest}
 use Rattle.ways.specs.Ways.{sminTo, wayTo}
-use Rattle.starts.specs.Sheet.{hereSlot, nodeSlot}
+use Rattle.blocks.specs.Sheet.{hereSlot, nodeSlot}
 use Rattle.sheets.specs.Fields.{upTo, Entry, arrivalBy, entryOf, counted, addedOf}
 use Rattle.sheets.specs.Rows.{arrivalAt, lastTo, nearTo, higherAt, equalAt, ownAt}
 
@@ -84,7 +84,7 @@ module _ (net : List ℕ) (a b : ℕ) where
     | inr q ↦ omega (arith, near-step (suc p), ap place {x = k} {y = suc p} (omega arith))
   ]
 
-  last-below : (p : ℕ) → last (suc p) ≤ p
+  pub last-below : (p : ℕ) → last (suc p) ≤ p
   unfolding lastTo
   last-below zero = under (ltb (place 0) (lengthIn net b)) 0 0 0 (omega arith) (omega arith)
   last-below (suc p) = under (ltb (place (suc p)) (lengthIn net b)) (suc p) (last (suc p)) (suc p) (omega arith) (omega (arith, last-below p))

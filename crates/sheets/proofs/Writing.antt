@@ -5,7 +5,7 @@ use mathlib.Core.Logic.{inl, inr}
 use mathlib.Core.List.{List, [], _∷_, _++_}
 use Prim.Native.Nat.{ℕ, zero, suc, _+_, _-_, _*_, _≤_, _<_}
 use native.Mathlib.Numerals.{add-one}
-use native.Mathlib.Nat.{mul-le-mul}
+use native.Mathlib.Nat.{mul-le-mul, mul-le-mul-right}
 use native.Mathlib.Omega.{arith}
 use lib.Dec.{ltb, eqb}
 use lib.ListN.{length, getD, take, List·getD-eq-default}
@@ -22,11 +22,11 @@ use Rattle.nets.proofs.Reading.{path-length, path-at, flows-length, flow-at}
 use Rattle.crossings.specs.Pairs.{placeOn, costOn, sideNumber}
 use Rattle.crossings.proofs.Noting.{place-most}
 use Rattle.ways.specs.Ways.{baseOf, sminTo, wayTo}
-use Rattle.starts.specs.Sheet.{hereSlot, instantSlot, nodeSlot, Shaped}
+use Rattle.blocks.specs.Sheet.{hereSlot, instantSlot, nodeSlot, Shaped}
 use Rattle.sheets.specs.Fields.{Entry, upTo, entryOf, counted, entriesTo, Listed, SheetIs}
 use Rattle.sheets.specs.Rows.{arrivalAt, lastTo, nearTo, weightTo, higherAt, equalAt, ownTo, ownAt}
 use Rattle.sheets.specs.Blocks.{blockSize, entryFrom, Grown, Roomy, fromOn, Joined, Filled}
-use Rattle.sheets.proofs.Blocks.{frame-less, kept-grown, Heads}
+use Rattle.sheets.proofs.Blocks.{frame-less, kept-grown, Heads, heads-frame}
 use Rattle.sheets.proofs.Running.{upto-at, node-at, added-at, own-at, counted-own, counted-at, higher-at, equal-at}
 
 pub block-fits : (p n : ℕ) → p ≤ few → n ≤ few → p * blockSize n ≤ 20034
@@ -34,6 +34,10 @@ block-fits p n h i = mul-le-mul {n₂ = 63} {m₂ = 318} h (omega arith)
 
 pub place-fits : (b w : ℕ) → b ≤ few → w ≤ few → b * w ≤ 3969
 place-fits b w h i = mul-le-mul {n₂ = 63} {m₂ = 63} h i
+
+-- the response bound at the place before place q of flow b is there
+pub place-inside : (n w b q l : ℕ) → b < n → q ≤ w → (q ≡ 0 → ⊥) → n * w ≤ l → b * w + q - 1 < l
+place-inside n w b q l h i z g = omega (arith, mul-le-mul-right {m = b + 1} {n = n} w (omega arith))
 
 -- what is picked by a test
 module _ {A : Type 0} (s t : ℕ) (p q : A) where
@@ -205,7 +209,7 @@ pub heads-filled : (net : List ℕ) (r : ℕ → ℕ) (a : ℕ) → a < countIn 
     Heads (Valid (netIn net)) (countIn net) (lengthIn net a) (baseAt net a) (addAt net a) e p → lengthIn net a ≤ p → Filled net r a 0 e
 unfolding entriesTo
 heads-filled net r a one H end = record {
-  frame = H .frame;
+  frame = heads-frame end H;
   few = λ k h. omega (arith, H .heads k (omega arith) h .none);
   is = λ v k h. record {
     base =
@@ -337,4 +341,5 @@ module _ {net : List ℕ} {r : ℕ → ℕ} {a b : ℕ} {e : List ℕ} (one : a 
     few = λ p h. omega (arith, F .few p h);
     short = short;
     small = F .frame .small;
+    looks = F .frame .looks;
   }

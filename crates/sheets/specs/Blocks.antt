@@ -10,7 +10,7 @@ use Rattle.rules.specs.Valid.{Valid}
 use Rattle.nets.specs.Nets.{countIn, roomIn, lengthIn, netIn, flowAt, nodeAt}
 use Rattle.crossings.specs.Pairs.{placeOn, Noted}
 use Rattle.ways.specs.Ways.{baseOf, WaysAre}
-use Rattle.starts.specs.Sheet.{mostTime, blockAt, added, entriesIn, Small}
+use Rattle.blocks.specs.Sheet.{mostTime, blockAt, added, entriesIn, Small, Fit}
 use Rattle.sheets.specs.Fields.{Entry, upTo, entriesTo, EntryIs, Listed, addedOf}
 
 -- a head, and room for n entries
@@ -22,6 +22,7 @@ pub record Frame (n m : ℕ) (e : List ℕ) : Type 0 where
   pub size : values e 0 ≡ blockSize n
   pub long : 1 + m * blockSize n ≤ length e
   pub small : Small e
+  pub looks : Fit e m
 
 -- where block p begins
 abbrev pub beginOf : ℕ → ℕ → ℕ
@@ -70,6 +71,7 @@ pub record Given (net pairs ways replies : List ℕ) (a b : ℕ) : Type 0 where
   pub noted : Noted net pairs a b
   pub known : WaysAre net ways
   pub bounds : (k : ℕ) → values replies k ≤ mostTime
+  pub long : countIn net * roomIn net ≤ length replies
 
 -- of flow a, with the response bounds r
 module _ (net : List ℕ) (r : ℕ → ℕ) (a : ℕ) where

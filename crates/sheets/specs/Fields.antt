@@ -11,7 +11,7 @@ use Rattle.rules.specs.Net.{Hop, Flow, Net}
 use Rattle.rules.specs.Formula.{Role, Own, Higher, Equal, Lower, both, role, lower, crosses, firstOn, lastOn, costAt, smin, M, slowest}
 use Rattle.nets.specs.Nets.{flowAt, nodeAt, positionOf}
 use Rattle.ways.specs.Ways.{baseOf}
-use Rattle.starts.specs.Sheet.{hereSlot, instantSlot, nodeSlot, blockAt, added, entriesIn, entryAt}
+use Rattle.blocks.specs.Sheet.{hereSlot, instantSlot, nodeSlot, blockAt, added, entriesIn, entryAt}
 
 abbrev pub upTo : Flow → ℕ → List Hop
 upTo i p = take (p + 1) (i .path)

@@ -1,9 +1,9 @@
 // The sheet of a flow, written at its turn: what of the formula hangs neither on the instant nor on W, with the response bounds so far.
-use starts::ENTRY;
-use starts::HEAD;
-use starts::HERE;
-use starts::INSTANT;
-use starts::NODE;
+use blocks::ENTRY;
+use blocks::HEAD;
+use blocks::HERE;
+use blocks::INSTANT;
+use blocks::NODE;
 ghost use mathlib.Core.Path.{_≡_};
 ghost use mathlib.Core.List.{[], _∷_};
 ghost use Prim.Native.Nat.{ℕ, _+_, _*_, _<_, _≤_, max};
@@ -12,29 +12,29 @@ ghost use lib.ListN.{length};
 ghost use Rattle.least.specs.Count.{pick};
 ghost use Rattle.least.specs.Lists.{values};
 ghost use Rattle.rules.specs.Valid.{Valid};
-ghost use Rattle.nets.specs.Nets.{few, countIn, roomIn, lengthIn, fieldIn, flowIn, netIn};
+ghost use Rattle.nets.specs.Nets.{few, Whole, countIn, roomIn, lengthIn, fieldIn, flowIn, netIn};
 ghost use Rattle.crossings.specs.Pairs.{placeOn, costOn, Noted};
 ghost use Rattle.ways.specs.Ways.{sminTo, WaysAre};
-ghost use Rattle.starts.specs.Sheet.{mostTime, hereSlot, nodeSlot, entriesIn, Small, Shaped};
+ghost use Rattle.blocks.specs.Sheet.{mostTime, hereSlot, nodeSlot, entriesIn, Small, Shaped};
 ghost use Rattle.sheets.specs.Fields.{SheetIs};
 ghost use Rattle.sheets.specs.Rows.{arrivalAt, higherAt, equalAt, ownAt};
 ghost use Rattle.sheets.specs.Blocks.{blockSize, Frame, Appended, entryFrom, Grown, Roomy, Joined, Given, Filled};
 
 // S of flow b at place q of its path.
 fn arrival(net: &[u16], replies: &[u64], b: usize, q: usize) -> u64
-    requires { ⌜ (b < countIn (now net)) × (q ≤ 63) × ((k : ℕ) → values (now replies) k ≤ mostTime) ⌝ }
+    requires { ⌜ Whole (now net) × (b < countIn (now net)) × (q ≤ roomIn (now net)) × (countIn (now net) * roomIn (now net) ≤ length (now replies)) × ((k : ℕ) → values (now replies) k ≤ mostTime) ⌝ }
     ensures { λ r. ⌜ r ≡ arrivalAt (now (net .entry)) (values (now (replies .entry))) b q ⌝ }
     ensures { λ r. ⌜ r ≤ 131070 ⌝ }
 {
     if q == 0 {
         return 0;
     }
-    nets::lmax(net) + least::at(replies, b * nets::room(net) + q - 1)
+    nets::lmax(net) + replies[b * nets::room(net) + q - 1]
 }
 
 // Where the block of place p begins: each has room for an entry of every flow.
 fn block(net: &[u16], p: usize) -> usize
-    requires { ⌜ p ≤ few ⌝ }
+    requires { ⌜ Whole (now net) × (p ≤ few) ⌝ }
     ensures { λ r. ⌜ r ≡ 1 + p * blockSize (countIn (now (net .entry))) ⌝ }
     ensures { λ r. ⌜ r ≤ 20035 ⌝ }
 {
@@ -71,7 +71,7 @@ fn append(
     period: u64,
     weight: u64,
 )
-    requires { ⌜ (p ≤ few) × Frame (countIn (now net)) (p + 1) (now sheet) × (entriesIn (now sheet) p < countIn (now net)) × (look < 16777216) × (plus < 16777216) × (less < 16777216) × (period < 16777216) × (weight < 16777216) ⌝ }
+    requires { ⌜ Whole (now net) × (p ≤ few) × Frame (countIn (now net)) (p + 1) (now sheet) × (entriesIn (now sheet) p < countIn (now net)) × (look < nodeSlot p) × (plus < 16777216) × (less < 16777216) × (period < 16777216) × (weight < 16777216) ⌝ }
     ensures { λ r. ⌜ Appended (countIn (now (net .entry))) p (entryFrom look plus less period weight) (now (sheet .entry)) (now (sheet .exit)) ⌝ }
     ensures { λ r. ⌜ length (now (sheet .exit)) ≡ length (now (sheet .entry)) ⌝ }
 {
@@ -88,7 +88,7 @@ fn append(
 
 // The entries of flow a itself: from its second packet on, for its first stands in what hangs on nothing.
 fn write_own(net: &[u16], sheet: &mut [u64], a: usize)
-    requires { ⌜ (a < countIn (now net)) × Roomy (countIn (now net)) (lengthIn (now net) a) (now sheet) ⌝ }
+    requires { ⌜ Whole (now net) × (a < countIn (now net)) × Roomy (countIn (now net)) (lengthIn (now net) a) (now sheet) ⌝ }
     ensures { λ r. ⌜ Grown (Valid (netIn (now (net .entry)))) (countIn (now (net .entry))) (lengthIn (now (net .entry)) a) (λ p. ownAt (now (net .entry)) a p ∷ []) (now (sheet .entry)) (now (sheet .exit)) ⌝ }
     ensures { λ r. ⌜ length (now (sheet .exit)) ≡ length (now (sheet .entry)) ⌝ }
 {
@@ -116,9 +116,9 @@ fn later(net: &[u16], pairs: &[u8], a: usize, b: usize, last: usize, p: usize) -
 
 // Where a higher flow's count looks: at W at the last node shared, which is the one sought if it is the last of the prefix.
 fn look_at(last: usize, p: usize) -> u64
-    requires { ⌜ (last ≤ few) × (p ≤ few) ⌝ }
+    requires { ⌜ (last ≤ p) × (p ≤ few) ⌝ }
     ensures { λ r. ⌜ r ≡ pick (eqb last p) hereSlot (nodeSlot last) ⌝ }
-    ensures { λ r. ⌜ r ≤ 65 ⌝ }
+    ensures { λ r. ⌜ r < nodeSlot p ⌝ }
 {
     if last == p {
         return HERE as u64;
@@ -128,7 +128,7 @@ fn look_at(last: usize, p: usize) -> u64
 
 // J of flow b and its S, at place k of a's path.
 fn delay(net: &[u16], pairs: &[u8], replies: &[u64], a: usize, b: usize, k: usize) -> u64
-    requires { ⌜ Noted (now net) (now pairs) a b × (k < lengthIn (now net) a) × ((k : ℕ) → values (now replies) k ≤ mostTime) ⌝ }
+    requires { ⌜ Noted (now net) (now pairs) a b × (k < lengthIn (now net) a) × (countIn (now net) * roomIn (now net) ≤ length (now replies)) × ((k : ℕ) → values (now replies) k ≤ mostTime) ⌝ }
     ensures { λ r. ⌜ r ≡ fieldIn (now (net .entry)) b 3 + arrivalAt (now (net .entry)) (values (now (replies .entry))) b (placeOn (now (net .entry)) a b k) ⌝ }
     ensures { λ r. ⌜ r ≤ 196605 ⌝ }
 {
@@ -263,7 +263,7 @@ fn write_flow(
 
 // The sheet of flow a, with the response bounds so far.
 pub fn write(net: &[u16], pairs: &[u8], ways: &[u64], replies: &[u64], sheet: &mut [u64], a: usize)
-    requires { ⌜ Noted (now net) (now pairs) a a × WaysAre (now net) (now ways) × ((k : ℕ) → values (now replies) k ≤ mostTime) × Small (now sheet) × (1 + lengthIn (now net) a * (3 + 5 * countIn (now net)) ≤ length (now sheet)) × (length (now sheet) ≤ 16777216) ⌝ }
+    requires { ⌜ Noted (now net) (now pairs) a a × WaysAre (now net) (now ways) × (countIn (now net) * roomIn (now net) ≤ length (now replies)) × ((k : ℕ) → values (now replies) k ≤ mostTime) × Small (now sheet) × (1 + lengthIn (now net) a * (3 + 5 * countIn (now net)) ≤ length (now sheet)) × (length (now sheet) ≤ 16777216) ⌝ }
     ensures { λ r. ⌜ (Valid (netIn (now (net .entry))) → SheetIs (netIn (now (net .entry))) (roomIn (now (net .entry))) (values (now (replies .entry))) a (now (sheet .exit))) ⌝ }
     ensures { λ r. ⌜ Shaped (now (sheet .exit)) (lengthIn (now (net .entry)) a) ⌝ }
     ensures { λ r. ⌜ length (now (sheet .exit)) ≡ length (now (sheet .entry)) ⌝ }

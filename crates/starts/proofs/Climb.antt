@@ -12,7 +12,7 @@ use Rattle.least.specs.Count.{pick}
 use Rattle.least.specs.Lists.{values}
 use Rattle.least.specs.Fixed.{Under}
 use Rattle.least.proofs.Fixed.{under-step, under-done}
-use Rattle.starts.specs.Sheet.{mostTime, hereSlot, instantSlot, nodeSlot, added, sheetSum, seen, sums, Small, Fit}
+use Rattle.blocks.specs.Sheet.{mostTime, hereSlot, instantSlot, nodeSlot, added, sheetSum, seen, sums, Small, Fit}
 use Rattle.starts.specs.Begins.{BeginIs, Kept}
 use Rattle.starts.specs.declared.Begin.the-variants.{At, Past}
 use Rattle.starts.proofs.Sums.{sheet-ext, sums-rising}
@@ -51,22 +51,22 @@ module _ (s₀ s : List ℕ) (kept : Kept s₀ s) (room : 0 < length s₀) (w : 
 -- from is under, and so is w
 abbrev pub Climbs : List ℕ → ℕ → List ℕ → ℕ → ℕ → Type 0
 Climbs e p s₀ from w =
-    Fit e (p + 1) → Under (sums e (values s₀ instantSlot) p (nodes s₀)) from → Under (sums e (values s₀ instantSlot) p (nodes s₀)) w
+    Under (sums e (values s₀ instantSlot) p (nodes s₀)) from → Under (sums e (values s₀ instantSlot) p (nodes s₀)) w
 
 module _ (e : List ℕ) (p : ℕ) (s₀ s : List ℕ) (from w : ℕ) (kept : Kept s₀ s) (room : 0 < length s₀) (climbs : Climbs e p s₀ from w)
     (r : ℕ) (sum : r ≡ sheetSum e p (values (set s hereSlot w))) where
   is : r ≡ sums e (values s₀ instantSlot) p (nodes s₀) w
   is = sum ∙ slots-sum s₀ s kept room w e p
 
-  pub climbs-more : Climbs e p s₀ from r
+  pub climbs-more : Fit e (p + 1) → Climbs e p s₀ from r
   climbs-more fit u =
       subst (Under (sums e (values s₀ instantSlot) p (nodes s₀))) (sym is)
-      (under-step (sums-rising e (p + 1) fit (values s₀ instantSlot) p (omega arith) (nodes s₀)) (climbs fit u))
+      (under-step (sums-rising e (p + 1) fit (values s₀ instantSlot) p (omega arith) (nodes s₀)) (climbs u))
 
   pub climbs-at : r ≤ w →
-      (Fit e (p + 1) → Under (sums e (values s₀ instantSlot) p (nodes s₀)) from → BeginIs e (values s₀ instantSlot) p (nodes s₀) (At w))
-  climbs-at h fit u = under-done (climbs fit u) (omega (arith, is))
+      Under (sums e (values s₀ instantSlot) p (nodes s₀)) from → BeginIs e (values s₀ instantSlot) p (nodes s₀) (At w)
+  climbs-at h u = under-done (climbs u) (omega (arith, is))
 
 pub climbs-past : (e : List ℕ) (p : ℕ) (s₀ : List ℕ) (from w : ℕ) → Climbs e p s₀ from w → mostTime + values s₀ instantSlot < w + added e p →
-    (Fit e (p + 1) → Under (sums e (values s₀ instantSlot) p (nodes s₀)) from → BeginIs e (values s₀ instantSlot) p (nodes s₀) Past)
-climbs-past e p s₀ from w climbs h fit u v q = omega (arith, climbs fit u .low v q)
+    Under (sums e (values s₀ instantSlot) p (nodes s₀)) from → BeginIs e (values s₀ instantSlot) p (nodes s₀) Past
+climbs-past e p s₀ from w climbs h u v q = omega (arith, climbs u .low v q)

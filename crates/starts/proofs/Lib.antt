@@ -1,5 +1,4 @@
 -- The laws of `starts`.
-pub mod Terms
 pub mod Sums
 pub mod Nodes
 pub mod Climb

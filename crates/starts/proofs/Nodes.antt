@@ -11,9 +11,9 @@ use borrow.Author.Count.{below-more}
 use borrow.Author.Tests.{eqb-true, eqb-false}
 use Rattle.least.specs.Lists.{values}
 use Rattle.least.specs.Fixed.{Least, Under}
-use Rattle.starts.specs.Sheet.{mostTime, instantSlot, nodeSlot, added, sums, Small, Shaped, Fit, StartsOf, prior}
+use Rattle.blocks.specs.Sheet.{mostTime, instantSlot, nodeSlot, added, sums, Small, Fit}
 use Rattle.starts.specs.Begins.{BeginIs, BeginFits, Kept}
-use Rattle.starts.specs.Runs.{LowTo, Behind, AtNode, PastAt}
+use Rattle.starts.specs.Runs.{StartsOf, prior, LowTo, Behind, AtNode, PastAt}
 use Rattle.starts.specs.declared.Begin.{Begin}
 use Rattle.starts.specs.declared.Begin.the-variants.{At, Past}
 use Rattle.starts.proofs.Sums.{sums-same, start-found, from-under}
@@ -39,12 +39,6 @@ behind-set m l₀ l k v h b = record {
   long = simp length-set (b .long);
 }
 
-pub shaped-less : {e : List ℕ} {m m′ : ℕ} → m′ ≤ m → Shaped e m → Shaped e m′
-shaped-less h s = record { whole = λ p q. s .whole p (omega arith); few = λ p q. s .few p (omega arith); short = s .short; small = s .small }
-
-pub fit-less : (e : List ℕ) (m m′ : ℕ) → m′ ≤ m → Fit e m → Fit e m′
-fit-less e m m′ h f p q a b = f p q (omega arith) b
-
 -- the starting times in the slots
 abbrev pub nodes : List ℕ → ℕ → ℕ
 nodes slots q = values slots (nodeSlot q)
@@ -68,7 +62,7 @@ pub record Going (e : List ℕ) (m u : ℕ) (slots₀ best₀ slots best : List 
   pub small : Small slots
   pub low : LowTo m best
   pub behind : Behind m best₀ best
-  pub passed : (W : ℕ → ℕ → ℕ) → Fit e m → StartsOf e m W → Priors W m u slots₀ → Passed e W m u best₀ slots best p
+  pub passed : (W : ℕ → ℕ → ℕ) → StartsOf e m W → Priors W m u slots₀ → Passed e W m u best₀ slots best p
 
 module _ (e : List ℕ) (m u : ℕ) where
   pub going-start : (slots best : List ℕ) → nodeSlot m ≤ length slots → m ≤ length best → u ≤ mostTime → Small slots → LowTo m best →
@@ -82,7 +76,7 @@ module _ (e : List ℕ) (m u : ℕ) where
     small = set-cases (λ j v. v < 16777216) slots instantSlot u (omega arith) (omega arith) (λ j h. small j);
     low = low;
     behind = behind-none;
-    passed = λ W fit starts first. record {
+    passed = λ W starts first. record {
       found = λ k h. absurd (omega arith);
       left = λ k h q. first k q;
       kept = λ k h. refl;
@@ -104,7 +98,7 @@ module _ (e : List ℕ) (m u : ℕ) where
     small = kept .small;
     low = going .low;
     behind = going .behind;
-    passed = λ W fit starts first. (let old = going .passed W fit starts first in record {
+    passed = λ W starts first. (let old = going .passed W starts first in record {
       found = λ k h. record {
         start = kept .others (nodeSlot k) (λ z. omega arith) ∙ old .found k h .start;
         greatest = old .found k h .greatest;
@@ -115,15 +109,15 @@ module _ (e : List ℕ) (m u : ℕ) where
     });
   }
 
-  module _ (slots₀ best₀ slots best : List ℕ) (p : ℕ) (going : Going e m u slots₀ best₀ slots best p) (on : p < m) where
+  module _ (slots₀ best₀ slots best : List ℕ) (p : ℕ) (going : Going e m u slots₀ best₀ slots best p) (on : p < m) (fit : Fit e m) where
     -- the starting times so far, and the one before at p
-    module _ (W : ℕ → ℕ → ℕ) (fit : Fit e m) (starts : StartsOf e m W) (first : Priors W m u slots₀) where
+    module _ (W : ℕ → ℕ → ℕ) (starts : StartsOf e m W) (first : Priors W m u slots₀) where
       earlier : (l : ℕ) → l < p → nodes slots l ≡ W u l
-      earlier l h = going .passed W fit starts first .found l h .start
+      earlier l h = going .passed W starts first .found l h .start
 
       under : Under (sums e (values slots instantSlot) p (nodes slots)) (nodes slots p)
       under =
-          subst (Under (sums e (values slots instantSlot) p (nodes slots))) (sym (going .passed W fit starts first .left p (omega arith) on))
+          subst (Under (sums e (values slots instantSlot) p (nodes slots))) (sym (going .passed W starts first .left p (omega arith) on))
           (subst (λ v. Under (sums e v p (nodes slots)) (prior W u p)) (sym (going .time)) (from-under e m fit W starts u p on (nodes slots) earlier))
 
       found-sum : sums e (values slots instantSlot) p (nodes slots) (W u p) ≤ W u p
@@ -133,40 +127,40 @@ module _ (e : List ℕ) (m u : ℕ) where
 
     -- what start_at gives at p
     module _ (r : Begin)
-        (begin : Fit e (p + 1) → Under (sums e (values slots instantSlot) p (nodes slots)) (nodes slots p) → BeginIs e (values slots instantSlot) p (nodes slots) r) where
-      pub going-past : r ≡ Past → (W : ℕ → ℕ → ℕ) → Fit e m → StartsOf e m W → Priors W m u slots₀ → PastAt e m W u
-      going-past is W fit starts first =
-          let past = subst (BeginIs e (values slots instantSlot) p (nodes slots)) is (begin (fit-less e m (p + 1) (omega arith) fit) (under W fit starts first)) in
-          record { node = p; on = on; past = omega (arith, going .time, past (W u p) (found-sum W fit starts first)) }
+        (begin : Under (sums e (values slots instantSlot) p (nodes slots)) (nodes slots p) → BeginIs e (values slots instantSlot) p (nodes slots) r) where
+      pub going-past : r ≡ Past → (W : ℕ → ℕ → ℕ) → StartsOf e m W → Priors W m u slots₀ → PastAt e m W u
+      going-past is W starts first =
+          let past = subst (BeginIs e (values slots instantSlot) p (nodes slots)) is (begin (under W starts first)) in
+          record { node = p; on = on; past = omega (arith, going .time, past (W u p) (found-sum W starts first)) }
 
       module _ (fits : BeginFits e (values slots instantSlot) p r) (w : ℕ) (at : r ≡ At w) where
         pub begin-small : w + added e p ≤ mostTime + u
         begin-small = omega (arith, going .time, subst (BeginFits e (values slots instantSlot) p) at fits)
 
-        start : (W : ℕ → ℕ → ℕ) → Fit e m → StartsOf e m W → Priors W m u slots₀ → w ≡ W u p
-        start W fit starts first =
-            start-found e m fit W starts u p w on (nodes slots) (earlier W fit starts first)
+        start : (W : ℕ → ℕ → ℕ) → StartsOf e m W → Priors W m u slots₀ → w ≡ W u p
+        start W starts first =
+            start-found e m fit W starts u p w on (nodes slots) (earlier W starts first)
             (subst (λ v. Least (sums e v p (nodes slots)) w) (going .time)
-            (subst (BeginIs e (values slots instantSlot) p (nodes slots)) at (begin (fit-less e m (p + 1) (omega arith) fit) (under W fit starts first))))
+            (subst (BeginIs e (values slots instantSlot) p (nodes slots)) at (begin (under W starts first))))
 
         module _ (slots′ : List ℕ) (kept : Kept slots slots′) (b : ℕ) (is : b ≡ max (values best p) (w + added e p - u)) (short : u ≤ mostTime) where
           now : Going e m u slots₀ best₀ slots′ best p
           now = going-kept slots₀ best₀ slots slots′ best p kept going
 
-          module _ (W : ℕ → ℕ → ℕ) (fit : Fit e m) (starts : StartsOf e m W) (first : Priors W m u slots₀) where
+          module _ (W : ℕ → ℕ → ℕ) (starts : StartsOf e m W) (first : Priors W m u slots₀) where
             old : Passed e W m u best₀ slots′ best p
-            old = now .passed W fit starts first
+            old = now .passed W starts first
 
             here : AtNode e W u best₀ (set slots′ (nodeSlot p) w) (set best p b) p
             here = record {
-              start = getD-set-same slots′ (nodeSlot p) w 0 (omega (arith, now .room)) ∙ start W fit starts first;
+              start = getD-set-same slots′ (nodeSlot p) w 0 (omega (arith, now .room)) ∙ start W starts first;
               greatest = omega (
                 arith,
                 getD-set-same best p b 0 (omega (arith, going .wide)),
                 old .kept p (omega arith),
-                start W fit starts first,
+                start W starts first,
               );
-              within = omega (arith, begin-small, start W fit starts first);
+              within = omega (arith, begin-small, start W starts first);
             }
 
             there : (k : ℕ) → k < p → AtNode e W u best₀ (set slots′ (nodeSlot p) w) (set best p b) k
@@ -197,5 +191,5 @@ module _ (e : List ℕ) (m u : ℕ) where
           }
 
   pub going-end : (slots₀ best₀ slots best : List ℕ) (p : ℕ) → Going e m u slots₀ best₀ slots best p → m ≤ p →
-      (W : ℕ → ℕ → ℕ) → Fit e m → StartsOf e m W → Priors W m u slots₀ → (k : ℕ) → k < m → AtNode e W u best₀ slots best k
-  going-end slots₀ best₀ slots best p going h W fit starts first k q = going .passed W fit starts first .found k (omega arith)
+      (W : ℕ → ℕ → ℕ) → StartsOf e m W → Priors W m u slots₀ → (k : ℕ) → k < m → AtNode e W u best₀ slots best k
+  going-end slots₀ best₀ slots best p going h W starts first k q = going .passed W starts first .found k (omega arith)

@@ -1,26 +1,22 @@
 -- How the sums of a sheet rise, and where their starting times lie. Assumes nothing.
-use mathlib.Core.Path.{_≡_, sym}
+use mathlib.Core.Path.{_≡_, refl, sym}
 use mathlib.Core.Bool.{Bool, true, false}
-use mathlib.Core.Logic.{inl, inr}
 use mathlib.Core.List.{List}
-use Prim.Native.Nat.{ℕ, zero, suc, _+_, _-_, _≤_, _<_}
+use Prim.Native.Nat.{ℕ, zero, suc, _-_, _≤_, _<_}
 use native.Mathlib.Omega.{arith}
-use native.Mathlib.Nat.{le-refl, le-trans, le-of-eq, mul-le-mul-right}
+use native.Mathlib.Nat.{le-refl, le-trans, le-of-eq}
 use lib.Dec.{eqb}
-use borrow.Author.Tests.{eq-eqb}
+use borrow.Author.Tests.{eqb-false}
 use Rattle.least.specs.Count.{pick}
 use Rattle.least.specs.Lists.{values}
 use Rattle.least.specs.Fixed.{Rising, Least, Under}
 use Rattle.least.specs.Starts.{Order}
-use Rattle.least.proofs.Count.{count-rises, pick-le}
 use Rattle.least.proofs.Fold.{sum-to-le}
 use Rattle.least.proofs.Fixed.{least-unique, least-ext, under-zero, under-ext}
 use Rattle.least.proofs.Starts.{starts-within}
-use Rattle.starts.specs.Sheet.{entriesIn, entryAt, hereSlot, instantSlot, termOf, sheetSum, seen, sums, Back, Fit, StartsOf, prior}
-
-pub term-le : (e : List ℕ) (v v′ : ℕ → ℕ) (k : ℕ) → v (values e k) ≤ v′ (values e k) → termOf e v k ≤ termOf e v′ k
-unfolding termOf
-term-le e v v′ k h = mul-le-mul-right (values e (k + 4)) (count-rises (values e (k + 2)) (values e (k + 3)) (omega arith))
+use Rattle.blocks.specs.Sheet.{entriesIn, entryAt, hereSlot, instantSlot, nodeSlot, termOf, sheetSum, seen, sums, Fit}
+use Rattle.blocks.proofs.Terms.{term-le}
+use Rattle.starts.specs.Runs.{StartsOf, prior}
 
 -- a sum rises with what its counts look at
 pub sheet-le : (e : List ℕ) (p : ℕ) (v v′ : ℕ → ℕ) →
@@ -43,15 +39,17 @@ module _ (e : List ℕ) (m : ℕ) (fit : Fit e m) where
   pub sums-le : (u u′ p : ℕ) → p < m → u ≤ u′ → (x x′ : ℕ → ℕ) → ((l : ℕ) → l < p → x l ≤ x′ l) → (w w′ : ℕ) → w ≤ w′ → sums e u p x w ≤ sums e u′ p x′ w′
   sums-le u u′ p hp hu x x′ hx w w′ hw = sheet-le e p (seen x w u) (seen x′ w′ u′) (λ q hq. at (values e (entryAt e p q)) (fit p q hp hq))
     where
-      at : (k : ℕ) → Back p k → seen x w u k ≤ seen x′ w′ u′ k
-      at k (inl h) = rw (eq-eqb k hereSlot h) hw
-      at k (inr (inl h)) = elsewhere (eqb k hereSlot) (rw (eq-eqb k instantSlot h) hu)
+      at : (k : ℕ) → k < nodeSlot p → seen x w u k ≤ seen x′ w′ u′ k
+      at k h = go (eqb k hereSlot) refl (eqb k instantSlot) refl
         where
-          elsewhere : (b : Bool) → pick (eqb k instantSlot) u (x (k - 2)) ≤ pick (eqb k instantSlot) u′ (x′ (k - 2)) →
-              pick b w (pick (eqb k instantSlot) u (x (k - 2))) ≤ pick b w′ (pick (eqb k instantSlot) u′ (x′ (k - 2)))
-          elsewhere true q = hw
-          elsewhere false q = q
-      at k (inr (inr (a, b))) = pick-le (eqb k hereSlot) hw (pick-le (eqb k instantSlot) hu (hx (k - 2) (omega arith)))
+          go : (a : Bool) → eqb k hereSlot ≡ a → (b : Bool) → eqb k instantSlot ≡ b →
+              pick a w (pick b u (x (k - 2))) ≤ pick a w′ (pick b u′ (x′ (k - 2)))
+          go true d b f = hw
+          go false d true f = hu
+          go false d false f =
+              let y = eqb-false k hereSlot d in
+              let z = eqb-false k instantSlot f in
+              hx (k - 2) (omega (arith, y, z))
 
   pub sums-same : (u p : ℕ) → p < m → (x x′ : ℕ → ℕ) → ((l : ℕ) → l < p → x l ≡ x′ l) → (w : ℕ) → sums e u p x w ≡ sums e u p x′ w
   sums-same u p hp x x′ h w = omega (

@@ -1,30 +1,18 @@
--- What a walk over the instants keeps: for each node what of its sum hangs on the instant alone, then the next step of each entry.
+-- What a walk over the instants keeps of the first m nodes, one behind the other.
 use mathlib.Core.Path.{_≡_}
 use mathlib.Core.List.{List}
-use Prim.Native.Nat.{ℕ, _+_, _≤_, _<_}
-use lib.ListN.{length}
+use Prim.Native.Nat.{ℕ, _+_, _<_}
 use Rattle.least.specs.Fold.{sumTo}
 use Rattle.least.specs.Lists.{values}
-use Rattle.starts.specs.Sheet.{entriesIn, entryAt, instantSum}
-use Rattle.starts.specs.Steps.{EntryStep}
+use Rattle.blocks.specs.Sheet.{entriesIn, instantSum}
+use Rattle.blocks.specs.Kept.{KeptAt}
 
 -- where that of node p begins
 abbrev pub stepsAt : List ℕ → ℕ → ℕ
 stepsAt e p = sumTo p (λ p. 1 + entriesIn e p)
-
--- of node p, at a place
-pub record KeptAt (e : List ℕ) (end u : ℕ) (steps : List ℕ) (p at : ℕ) : Type 0 where
-  pub sum : values steps at ≡ instantSum e p u
-  pub each : (q : ℕ) → q < entriesIn e p → EntryStep e (entryAt e p q) u end (values steps (at + 1 + q))
 
 abbrev pub KeptTo : List ℕ → ℕ → ℕ → List ℕ → ℕ → Type 0
 KeptTo e end u steps m = (p : ℕ) → p < m → KeptAt e end u steps p (stepsAt e p)
 
 abbrev pub SumsTo : List ℕ → ℕ → List ℕ → ℕ → Type 0
 SumsTo e u steps m = (p : ℕ) → p < m → values steps (stepsAt e p) ≡ instantSum e p u
-
--- no place but those from a up to b is changed
-pub record Inside (a b : ℕ) (l l′ : List ℕ) : Type 0 where
-  pub before : (k : ℕ) → k < a → values l′ k ≡ values l k
-  pub behind : (k : ℕ) → b ≤ k → values l′ k ≡ values l k
-  pub long : length l′ ≡ length l

@@ -3,15 +3,7 @@ use mathlib.Core.List.{List}
 use Prim.Native.Nat.{ℕ}
 use Rattle.least.specs.Fold.{sumTo}
 use Rattle.least.specs.Steps.{Step}
-use Rattle.starts.specs.Sheet.{instantTerm, instantSum}
-
--- what the entry at k adds
-abbrev pub EntryStep : List ℕ → ℕ → ℕ → ℕ → ℕ → Type 0
-EntryStep e k u end r = Step (λ v. instantTerm e v k) u end r
-
--- the sum at node p
-abbrev pub NodeStep : List ℕ → ℕ → ℕ → ℕ → ℕ → Type 0
-NodeStep e p u end r = Step (instantSum e p) u end r
+use Rattle.blocks.specs.Sheet.{instantSum}
 
 -- the sums at the first m nodes together, so at every prefix of the path
 abbrev pub SheetStep : List ℕ → ℕ → ℕ → ℕ → ℕ → Type 0

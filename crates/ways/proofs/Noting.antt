@@ -11,7 +11,7 @@ use Rattle.least.specs.Lists.{values}
 use Rattle.least.proofs.Count.{le-or-lt}
 use Rattle.least.proofs.Ranges.{sum-to-more}
 use Rattle.rules.specs.Valid.{Valid}
-use Rattle.nets.specs.Nets.{countIn, roomIn, lengthIn, hopIn, netIn}
+use Rattle.nets.specs.Nets.{Whole, countIn, roomIn, lengthIn, hopIn, netIn}
 use Rattle.crossings.specs.Pairs.{Ahead}
 use Rattle.ways.specs.Ways.{wayAt, WayFits, WayIs, PlacesAre, WaysAre}
 use Rattle.ways.specs.Whole.{leastOver, lowerOver, sminOver, wayOver, term5Over, baseOver}
@@ -77,10 +77,6 @@ module _ (net : List ℕ) where
     places = record { fit = λ k h. absurd (omega arith); is = λ v k h. absurd (omega arith) };
     ahead = record { before = λ k h. refl; long = refl };
   }
-
-  pub room-left : {l₀ l : List ℕ} {a k : ℕ} (at : ℕ) → Going l₀ l a k → countIn net * roomIn net * 3 ≤ length l₀ → a < countIn net →
-      k < lengthIn net a → at ≡ wayAt net a k → at + 2 < length l
-  room-left at g h here in-path e = omega (arith, g .ahead .long, mul-le-mul-right (roomIn net) here)
 
   -- the sums, with one place more
   module _ (a k : ℕ) where
@@ -163,8 +159,11 @@ module _ (net : List ℕ) where
       }
     ]
 
-  pub flows-end : {l : List ℕ} (a n : ℕ) → ((b : ℕ) → b < a → PlacesAre net l b (lengthIn net b)) → n ≡ countIn net → n ≤ a → WaysAre net l
-  flows-end a n all e h = record {
+  pub flows-end : {l : List ℕ} (a n : ℕ) → ((b : ℕ) → b < a → PlacesAre net l b (lengthIn net b)) → n ≡ countIn net → n ≤ a →
+      countIn net * roomIn net * 3 ≤ length l → Whole net → WaysAre net l
+  flows-end a n all e h long whole = record {
     fit = λ b k i. all b (omega arith) .fit k;
     is = λ v b k i. all b (omega arith) .is v k;
+    long = long;
+    whole = whole;
   }

@@ -2,13 +2,13 @@
 use mathlib.Core.Path.{_≡_}
 use mathlib.Core.List.{List}
 use Prim.Native.Nat.{ℕ, _+_, _-_, _*_, _≤_, _<_}
-use lib.ListN.{take}
+use lib.ListN.{length, take}
 use Rattle.least.specs.Fold.{sumOf}
 use Rattle.least.specs.Lists.{values}
 use Rattle.rules.specs.Net.{Hop, Flow, Net}
 use Rattle.rules.specs.Formula.{least, leastCost, costAt, slowest, term4, term5, term6}
 use Rattle.rules.specs.Valid.{Valid}
-use Rattle.nets.specs.Nets.{countIn, roomIn, lengthIn, hopIn, pathIn, flowIn, netIn}
+use Rattle.nets.specs.Nets.{Whole, countIn, roomIn, lengthIn, hopIn, pathIn, flowIn, netIn}
 
 -- what hangs on nothing, at node h with the prefix P: terms 4, 5 and 6, and i's first packet less C
 unfoldable pub baseOf : Net → Flow → List Hop → ℕ → ℕ
@@ -44,6 +44,8 @@ pub record PlacesAre (net ways : List ℕ) (a n : ℕ) : Type 0 where
 pub record WaysAre (net ways : List ℕ) : Type 0 where
   pub fit : (a k : ℕ) → a < countIn net → k < lengthIn net a → WayFits net ways a k
   pub is : Valid (netIn net) → (a k : ℕ) → a < countIn net → k < lengthIn net a → WayIs net ways a k
+  pub long : countIn net * roomIn net * 3 ≤ length ways
+  pub whole : Whole net
 
 -- a place of a path of the set, and what is noted
 pub record Known (net ways : List ℕ) (a k : ℕ) : Type 0 where

@@ -3,7 +3,7 @@ ghost use mathlib.Core.Path.{_≡_};
 ghost use Prim.Native.Nat.{ℕ, _+_, _-_, _*_, _≤_, _<_};
 ghost use lib.ListN.{length, take};
 ghost use Rattle.rules.specs.Valid.{Valid};
-ghost use Rattle.nets.specs.Nets.{few, countIn, roomIn, lengthIn, hopIn, pathIn, flowIn, netIn};
+ghost use Rattle.nets.specs.Nets.{few, Whole, countIn, roomIn, lengthIn, hopIn, pathIn, flowIn, netIn};
 ghost use Rattle.crossings.specs.Pairs.{PairsAre, Noted, Ahead};
 ghost use Rattle.ways.specs.Ways.{baseOf, sminTo, wayTo, wayAt, WaysAre, Known, PlacesAre};
 ghost use Rattle.ways.specs.Whole.{leastBy, leastOver, greatestBy, greatestOver, slowerOf, slowestTo, term4By, term4Over, lowerBy, lowerOver, baseOver};
@@ -68,7 +68,7 @@ fn greatest_cost(net: &[u16], pairs: &[u8], a: usize, p: usize, k: usize) -> u64
 
 // The place at which a's cost is greater: the earlier one, if both are equal.
 fn slower(net: &[u16], a: usize, s: usize, k: usize) -> usize
-    requires { ⌜ (a ≤ few) × (s ≤ few) × (k ≤ few) ⌝ }
+    requires { ⌜ Whole (now net) × (a < countIn (now net)) × (s < roomIn (now net)) × (k < roomIn (now net)) ⌝ }
     ensures { λ r. ⌜ r ≡ slowerOf (now (net .entry)) a s k ⌝ }
 {
     if nets::cost(net, a, s) < nets::cost(net, a, k) {
@@ -79,7 +79,7 @@ fn slower(net: &[u16], a: usize, s: usize, k: usize) -> usize
 
 // The earliest place of a's prefix at place p at which it is slowest.
 fn slowest_place(net: &[u16], a: usize, p: usize) -> usize
-    requires { ⌜ (a ≤ few) × (p < lengthIn (now net) a) ⌝ }
+    requires { ⌜ Whole (now net) × (a < countIn (now net)) × (p < lengthIn (now net) a) ⌝ }
     ensures { λ r. ⌜ r ≡ slowestTo (now (net .entry)) a p ⌝ }
     ensures { λ r. ⌜ r ≤ p ⌝ }
 {
@@ -163,7 +163,7 @@ fn base_of(net: &[u16], pairs: &[u8], a: usize, p: usize, term5: u64) -> u64
 
 // Where the numbers of a place stand: Smin, M, what hangs on nothing.
 fn way_at(net: &[u16], a: usize, k: usize) -> usize
-    requires { ⌜ (a ≤ few) × (k ≤ few) ⌝ }
+    requires { ⌜ Whole (now net) × (a ≤ few) × (k ≤ few) ⌝ }
     ensures { λ r. ⌜ r ≡ wayAt (now (net .entry)) a k ⌝ }
     ensures { λ r. ⌜ r ≤ 12500 ⌝ }
 {
@@ -176,7 +176,7 @@ pub fn smallest_time(net: &[u16], ways: &[u64], b: usize, k: usize) -> u64
     ensures { λ r. ⌜ (Valid (netIn (now (net .entry))) → r ≡ sminTo (netIn (now (net .entry))) (flowIn (now (net .entry)) b) k) ⌝ }
     ensures { λ r. ⌜ r ≤ 8257410 ⌝ }
 {
-    least::at(ways, way_at(net, b, k))
+    ways[way_at(net, b, k)]
 }
 
 // M of flow a at place k of its path.
@@ -185,7 +185,7 @@ pub fn least_way(net: &[u16], ways: &[u64], a: usize, k: usize) -> u64
     ensures { λ r. ⌜ (Valid (netIn (now (net .entry))) → r ≡ wayTo (netIn (now (net .entry))) (flowIn (now (net .entry)) a) k) ⌝ }
     ensures { λ r. ⌜ r ≤ 8257410 ⌝ }
 {
-    least::at(ways, way_at(net, a, k) + 1)
+    ways[way_at(net, a, k) + 1]
 }
 
 // What hangs on nothing at place p of the path of flow a.
@@ -194,7 +194,7 @@ pub fn base(net: &[u16], ways: &[u64], a: usize, p: usize) -> u64
     ensures { λ r. ⌜ (Valid (netIn (now (net .entry))) → r ≡ baseOf (netIn (now (net .entry))) (flowIn (now (net .entry)) a) (take (p + 1) (pathIn (now (net .entry)) a)) (hopIn (now (net .entry)) a p .node)) ⌝ }
     ensures { λ r. ⌜ r ≤ 12386115 ⌝ }
 {
-    least::at(ways, way_at(net, a, p) + 2)
+    ways[way_at(net, a, p) + 2]
 }
 
 // The places of the path of flow a.

@@ -76,7 +76,7 @@ returns c =
     let r = o .before .before in
     let n = r .before .before .before .before in
     let s = n .before .before .before .before in
-    pair-stored (s .args .net .now) (s .args .pairs .now) (n .note-places .last .1 .0) (s .args .a) (s .args .b) (s .pre .2) (n .note-places .ensures .1)
+    pair-stored (s .args .net .now) (s .args .pairs .now) (n .note-places .last .1 .0) (s .args .a) (s .args .b) (s .pre .3) (n .note-places .ensures .1)
     (n .note-places .ensures .0) _ _ _ _ _ _ _ _ (r .before .pair-at .ensures .0) (r .room .ensures .0) (o .before .hops .ensures .0)
     (u .before .hops2 .ensures .0) (o .side-of .ensures .0) (u .first-below .ensures) (c .before .below .ensures) (c .first-below2 .ensures)
 

@@ -36,17 +36,17 @@ add-at c = search needs
 mul-bound : tie.Need-mul-bound Inv-loop μ-loop
 mul-bound c = search needs
 
-array-read-bound : tie.Need-array-read-bound Inv-loop μ-loop
-array-read-bound c = search needs
+shared-slice-read-bound : tie.Need-shared-slice-read-bound Inv-loop μ-loop
+shared-slice-read-bound c = search needs
 
 mul-busy : tie.Need-mul-busy Inv-loop μ-loop
 mul-busy c = search needs
 
-array-read-busy : tie.Need-array-read-busy Inv-loop μ-loop
-array-read-busy c = search needs
+shared-slice-read-busy : tie.Need-shared-slice-read-busy Inv-loop μ-loop
+shared-slice-read-busy c = search needs
 
 figure-requires : tie.Need-figure-requires Inv-loop μ-loop
-figure-requires c κs = let p = c .before .before .before .before .before .before .pre in (p .0 _, p .1 _ (search needs))
+figure-requires c κs = let p = c .before .before .before .before .before .before .before .before .before .before .pre in (p .0 _, p .1 _ (search needs))
 
 mul-figures : tie.Need-mul-figures Inv-loop μ-loop
 mul-figures c = search needs
@@ -61,7 +61,7 @@ loop-less : tie.Need-loop-less Inv-loop μ-loop
 loop-less c = search needs
 
 loop-again : tie.Need-loop-again Inv-loop μ-loop
-loop-again c = let l = c .before .before .before .before .loop in let f = c .before .before .flow-at in (search needs, tally-more _ _ _ _ (l .figures) (l .k) (l .inv .1) (search needs) (f .result) (c .before .last-place .result) (c .figure .result) (f .ensures) (c .before .last-place .ensures .0) (c .figure .ensures))
+loop-again c = let l = c .before .before .before .before .before .before .loop in let f = c .before .before .before .before .flow-at in (search needs, tally-more _ _ _ _ (l .figures) (l .k) (l .inv .1) (search needs) (f .result) (c .before .before .before .last-place .result) (c .figure .result) (f .ensures) (c .before .before .before .last-place .ensures .0) (c .figure .ensures))
 
 returns : tie.Need-returns Inv-loop μ-loop
 returns c = let l = c .before .loop in tally-end _ _ _ _ (l .figures) (l .k) _ (l .inv .1) (search needs) (search needs)
@@ -80,9 +80,9 @@ figures-of-spec =
     last-place-requires
     add-at
     mul-bound
-    array-read-bound
+    shared-slice-read-bound
     mul-busy
-    array-read-busy
+    shared-slice-read-busy
     figure-requires
     mul-figures
     array-set-from-figures

@@ -1,7 +1,8 @@
 -- `engine::first_late` meets its contract.
-use Rattle.engine.proofs.Firsts.{clear-none, clear-more, first-here, first-none, late-at, timely-at}
+use Rattle.findings.proofs.Firsts.{clear-none, clear-more, first-here, first-none}
+use Rattle.engine.proofs.Laws.{late-at, timely-at}
 use Rattle.engine.specs.Firsts.{deadlineAt, boundAt}
-use Rattle.engine.specs.Findings.{Clear}
+use Rattle.findings.specs.Findings.{Clear}
 use lib.Dec.{ltb}
 use Prim.Native.Nat.{_-_, _≤_}
 use borrow.Author.Needs.{needs}

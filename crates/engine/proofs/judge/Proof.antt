@@ -6,9 +6,9 @@ use borrow.Author.Needs.{needs}
 use Rattle.flows.specs.declared.Cause.the-variants.{Crossing, NoBusyLength}
 use Rattle.nets.specs.Nets.{countIn}
 use Rattle.engine.specs.Verdicts.{refused}
-use Rattle.engine.specs.Findings.{crossed, Clear, FirstAt, Heavy, Outcome, FindingIs}
-use Rattle.engine.proofs.Firsts.{clear-low}
-use Rattle.engine.proofs.Findings.{room-enough}
+use Rattle.findings.specs.Findings.{crossed, Clear, FirstAt, Heavy, Outcome, FindingIs}
+use Rattle.findings.proofs.Firsts.{clear-low}
+use Rattle.engine.proofs.Room.{room-enough}
 use Rattle.engine.proofs.Judging.{judge-meant, crossing-said, overload-said, unsettled-said, figures-said}
 use Rattle.engine.proofs.judge.Statement.{statement}
 use Rattle.engine.proofs.judge.Tie as tie
@@ -85,7 +85,7 @@ slice-aggregate-find-10 c = search needs
 find-requires : tie.Need-find-requires
 find-requires c κs =
     let p = c .before .before .before .before .before .before .before .before .before .before .before .picture in
-    room-enough (p .last .0) (p .ensures .1 .1) (p .ensures .1 .2)
+    room-enough (p .last .0) (p .ensures .1 .1) (p .ensures .1 .2) (p .ensures .1 .3)
 
 enum-known-found : tie.Need-enum-known-found
 enum-known-found c = search needs
@@ -118,11 +118,18 @@ refuse-requires-3 c κs = search needs
 enum-told-2 : tie.Need-enum-told-2
 enum-told-2 c = search needs
 
+slice-aggregate-figures-of : tie.Need-slice-aggregate-figures-of
+slice-aggregate-figures-of c = search needs
+
+slice-aggregate-figures-of-2 : tie.Need-slice-aggregate-figures-of-2
+slice-aggregate-figures-of-2 c = search needs
+
 figures-of-requires : tie.Need-figures-of-requires
 figures-of-requires c κs =
-    let p = c .before .before .before .before .before .before .before .before .before .before .before .before .before .before .before .before .before .before .before .before .before .before .before .picture in
-    let f = c .before .before .before .before .before .before .before .before .before .before .before .find in
-    (settled c .1 .settled .low, λ k h. clear-low (f .last .1 .1 .1 .0) (countIn (p .last .0)) (settled c .1 .light) k (omega (arith, p .ensures .1 .0)))
+    let p = c .before .before .before .before .before .before .before .before .before .before .before .before .before .before .before .before .before .before .before .before .before .before .before .before .before .picture in
+    let f = c .before .before .before .before .before .before .before .before .before .before .before .before .before .find in
+    let o = settled (c .before .before) .1 in
+    (o .settled .low, (λ k h. clear-low (f .last .1 .1 .1 .0) (countIn (p .last .0)) (o .light) k (omega (arith, p .ensures .1 .0))), omega (arith, p .ensures .1 .0, p .ensures .1 .1, f .ensures .1), omega (arith, p .ensures .1 .0, p .ensures .1 .1, f .ensures .1))
 
 judge-figures-requires : tie.Need-judge-figures-requires
 judge-figures-requires c κs = search needs
@@ -148,9 +155,9 @@ returns-3 c =
 
 returns-4 : tie.Need-returns-4
 returns-4 c =
-    let p = c .before .before .before .before .before .before .before .before .before .before .before .before .before .before .before .before .before .before .before .before .before .before .before .before .before .picture in
+    let p = c .before .before .before .before .before .before .before .before .before .before .before .before .before .before .before .before .before .before .before .before .before .before .before .before .before .before .before .picture in
     let t = c .before .figures-of in
-    let o = settled (c .before .before) in
+    let o = settled (c .before .before .before .before) in
     judge-meant _ _ _ _ (λ v. figures-said _ _ _ v (p .last .0) (p .ensures .0) _ _ (o .1) (p .ensures .1 .1) (p .ensures .1 .2) (t .result) (t .ensures) (o .0) _ (c .judge-figures .ensures))
 
 pub judge-spec : {M : Type 1} → statement M
@@ -179,6 +186,8 @@ judge-spec =
     enum-told
     refuse-requires-3
     enum-told-2
+    slice-aggregate-figures-of
+    slice-aggregate-figures-of-2
     figures-of-requires
     judge-figures-requires
     returns

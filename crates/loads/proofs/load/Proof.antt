@@ -28,16 +28,21 @@ period-requires c κs = search needs
 ceil-of-requires : tie.Need-ceil-of-requires Inv-loop μ-loop
 ceil-of-requires c κs = search needs
 
-at-requires : tie.Need-at-requires Inv-loop μ-loop
-at-requires c κs = search needs
-
-most : (c : tie.After-at Inv-loop μ-loop) → c .before .ceil-of .result * c .at .result ≤ 65536 * 65535
-most c =
-    packets-most _ _ (c .before .ceil-of .ensures .1)
-    (omega (arith, c .at .ensures, c .before .before .before .before .before .before .before .before .pre .1 (c .before .before .before .before .loop .b) (omega arith)))
-
 mul-sum : tie.Need-mul-sum Inv-loop μ-loop
-mul-sum c = omega (arith, most c)
+mul-sum c = search needs
+
+shared-slice-read-sum : tie.Need-shared-slice-read-sum Inv-loop μ-loop
+shared-slice-read-sum c = search needs
+
+most : (c : tie.After-shared-slice-known3 Inv-loop μ-loop) →
+    let l = c .before .before .before .before in
+    c .before .ceil-of .result * values (l .before .before .before .before .args .weights .now) (l .loop .b) ≤ 65536 * 65535
+most c =
+    let l = c .before .before .before .before in
+    packets-most _ _ (c .before .ceil-of .ensures .1) (l .before .before .before .before .pre .3 (l .loop .b) (omega arith))
+
+mul-sum-2 : tie.Need-mul-sum-2 Inv-loop μ-loop
+mul-sum-2 c = omega (arith, most c)
 
 add-sum : tie.Need-add-sum Inv-loop μ-loop
 add-sum c = omega (arith, most c)
@@ -49,7 +54,13 @@ loop-less : tie.Need-loop-less Inv-loop μ-loop
 loop-less c = search needs
 
 loop-again : tie.Need-loop-again Inv-loop μ-loop
-loop-again c = (search needs, omega (arith, most c), search load-more)
+loop-again c =
+    let f = c .before in
+    let l = f .before .before .before .loop in (
+      search needs,
+      omega (arith, most c),
+      load-more _ _ _ (l .b) (l .sum) (l .inv .2) _ (f .ceil-of .result) (f .before .period .ensures .0) (f .ceil-of .ensures .0),
+    )
 
 returns : tie.Need-returns Inv-loop μ-loop
 returns c = (search load-end, search needs)
@@ -64,8 +75,9 @@ load-spec =
     loop-holds
     period-requires
     ceil-of-requires
-    at-requires
     mul-sum
+    shared-slice-read-sum
+    mul-sum-2
     add-sum
     add-b
     loop-less

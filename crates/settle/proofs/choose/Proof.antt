@@ -21,7 +21,7 @@ loop-holds : tie.Need-loop-holds Inv-loop μ-loop
 loop-holds c = search chosen-start
 
 prefer-requires : tie.Need-prefer-requires Inv-loop μ-loop
-prefer-requires c κs = (search needs, search needs, c .before .loop .inv .most)
+prefer-requires c κs = (search needs, search needs, search needs, search needs, c .before .loop .inv .most)
 
 add-b : tie.Need-add-b Inv-loop μ-loop
 add-b c = search needs

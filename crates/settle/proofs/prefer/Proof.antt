@@ -1,17 +1,19 @@
 -- `settle::prefer` meets its contract.
-use mathlib.Core.Path.{sym, _∙_}
 use borrow.Author.Needs.{needs}
 use Rattle.settle.proofs.Turns.{chosen-unmarked, chosen-still}
 use Rattle.settle.proofs.prefer.Statement.{statement}
 use Rattle.settle.proofs.prefer.Tie as tie
 
-at-requires : tie.Need-at-requires
-at-requires c κs = search needs
+mul-if1 : tie.Need-mul-if1
+mul-if1 c = search needs
+
+shared-slice-read-if1 : tie.Need-shared-slice-read-if1
+shared-slice-read-if1 c = search needs
 
 returns : tie.Need-returns
 returns c =
     let s = c .before .before .before .before .args in
-    (chosen-unmarked (s .marks .now) (s .n) (s .b) (s .chosen) (search needs) (sym (c .before .at .ensures) ∙ c .if1 .taken), search needs)
+    (chosen-unmarked (s .marks .now) (s .n) (s .b) (s .chosen) (search needs) (c .if1 .taken), search needs)
 
 returns-2 : tie.Need-returns-2
 returns-2 c = search needs
@@ -41,7 +43,8 @@ pub prefer-spec : {M : Type 1} → statement M
 prefer-spec =
     tie.close
     (tie.spec
-    at-requires
+    mul-if1
+    shared-slice-read-if1
     returns
     returns-2
     priority-requires

@@ -7,7 +7,7 @@ use native.Mathlib.Omega.{arith}
 use lib.ListN.{length, length-set}
 use borrow.Author.Needs.{needs}
 use Rattle.nets.specs.Nets.{countIn, roomIn}
-use Rattle.starts.specs.Sheet.{Shaped}
+use Rattle.blocks.specs.Sheet.{Shaped}
 use Rattle.settle.specs.Turns.{Room}
 use Rattle.settle.proofs.Turns.{sheet-fits, steps-fit, room-kept}
 use Rattle.settle.proofs.Work.{whole, unmarked-fair, Ran, turn-past, turn-still, still-fair, raised-fair, turn-raised}
@@ -48,7 +48,7 @@ slice-write-marks c = search needs
 write-requires : tie.Need-write-requires
 write-requires c κs =
     let s = c .before .before .before .before .before .before .before .before .before .before .before .before in
-    (s .pre .0, s .pre .1, s .pre .4 .low, s .pre .3 .sheet-small, sheet-fits (s .pre .3) (s .args .a), s .pre .3 .sheet-short)
+    (s .pre .0, s .pre .1, s .pre .3 .replies-long, s .pre .4 .low, s .pre .3 .sheet-small, sheet-fits (s .pre .3) (s .args .a), s .pre .3 .sheet-short)
 
 hops-requires : tie.Need-hops-requires
 hops-requires c κs = search needs
@@ -91,7 +91,7 @@ returns c =
     (turn-past (ran (c .before .before .before .before .before .before .before)) (c .if1 .taken), (kept-room (c .before .before .before .before .before .before .before) refl (length-set (x .marks .now) (x .a) 0), unmarked-fair (x .net .now) (x .replies .now) (x .marks .now) (x .a) (ran (c .before .before .before .before .before .before .before) .inside) (s .pre .4)))
 
 room-requires : tie.Need-room-requires
-room-requires c κs = search needs
+room-requires c κs = c .before .before .before .before .before .before .before .before .before .before .before .before .before .before .before .before .before .before .before .before .before .before .before .before .before .before .before .before .before .before .before .pre .0 .all .whole
 
 mul-raise : tie.Need-mul-raise
 mul-raise c = record { fits = omega (arith, first-low c) }

@@ -13,7 +13,7 @@ fits : (c : tie.After-block) → let s = c .before .before .before in let at = c
     (at + 8 + 5 * values (s .args .sheet .now) (at + 2) ≤ length (s .args .sheet .now)) × (values (s .args .sheet .now) (at + 2) < countIn (s .args .net .now))
 fits c =
     let s = c .before .before .before in
-    append-fits (countIn (s .args .net .now)) (s .args .p) (s .args .sheet .now) (s .pre .1) (s .pre .2) (c .block .result) (c .block .ensures .0)
+    append-fits (countIn (s .args .net .now)) (s .args .p) (s .args .sheet .now) (s .pre .2) (s .pre .3) (c .block .result) (c .block .ensures .0)
 
 block-requires : tie.Need-block-requires
 block-requires c κs = search needs
@@ -97,8 +97,8 @@ returns : tie.Need-returns
 returns c =
     let s = c .before .before .before .before in
     let q = s .pre in (
-      stored-appended (countIn (s .args .net .now)) (s .args .p) (s .args .sheet .now) (q .1) (q .2) (c .before .block .result) (c .before .block .ensures .0)
-          (s .args .look) (s .args .plus) (s .args .less) (s .args .period) (s .args .weight) (omega arith) (q .3) (q .4) (q .5) (q .6) (q .7),
+      stored-appended (countIn (s .args .net .now)) (s .args .p) (s .args .sheet .now) (q .2) (q .3) (c .before .block .result) (c .before .block .ensures .0)
+          (s .args .look) (s .args .plus) (s .args .less) (s .args .period) (s .args .weight) (omega arith) (omega (arith, q .4)) (q .5) (q .6) (q .7) (q .8),
       simp length-set,
     )
 

@@ -6,7 +6,7 @@ use lib.ListN.{length, length-set}
 use borrow.Author.Needs.{needs}
 use Rattle.rules.specs.Valid.{Valid}
 use Rattle.nets.specs.Nets.{countIn, lengthIn, netIn}
-use Rattle.sheets.proofs.Blocks.{frame-less, Heads, heads-none, heads-more}
+use Rattle.sheets.proofs.Blocks.{long-less, Heads, heads-none, heads-more}
 use Rattle.sheets.proofs.Writing.{baseAt, addAt, heads-filled}
 use Rattle.sheets.proofs.begin.Statement.{statement}
 use Rattle.sheets.proofs.begin.Tie as tie
@@ -19,7 +19,10 @@ abbrev μ-loop : tie.MeasureT-loop
 μ-loop net ways sheet₀ a m size p₀ sheet p = m - p
 
 fits : (c : tie.After-block2 Inv-loop μ-loop) → c .block2 .result + 3 ≤ length (c .before .before .loop .sheet)
-fits c = let l = c .before .before .loop in omega (arith, frame-less (l .p) (omega arith) (l .inv .2 .frame) .long)
+fits c =
+    let s = c .before .before .before .before .before .before .before .before .args in
+    let l = c .before .before .loop in
+    omega (arith, long-less (countIn (s .net .now)) (lengthIn (s .net .now) (s .a)) (l .p) (length (l .sheet)) (omega arith) (l .inv .2 .long))
 
 hops-requires : tie.Need-hops-requires Inv-loop μ-loop
 hops-requires c κs = search needs

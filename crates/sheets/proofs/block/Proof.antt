@@ -9,7 +9,7 @@ use Rattle.sheets.proofs.block.Statement.{statement}
 use Rattle.sheets.proofs.block.Tie as tie
 
 fits : (c : tie.After-count) → c .before .before .args .p * blockSize (c .count .result) ≤ 20034
-fits c = block-fits (c .before .before .args .p) (c .count .result) (c .before .before .pre) (c .count .ensures .1)
+fits c = block-fits (c .before .before .args .p) (c .count .result) (c .before .before .pre .1) (c .count .ensures .1)
 
 count-requires : tie.Need-count-requires
 count-requires c κs = search needs

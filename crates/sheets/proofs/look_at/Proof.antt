@@ -3,7 +3,7 @@ use mathlib.Core.Path.{_≡_, _∙_}
 use Prim.Native.Nat.{_+_}
 use native.Mathlib.Omega.{arith}
 use borrow.Author.Needs.{needs}
-use Rattle.starts.specs.Sheet.{hereSlot, nodeSlot}
+use Rattle.blocks.specs.Sheet.{hereSlot, nodeSlot}
 use Rattle.sheets.proofs.Writing.{pick-same, pick-other}
 use Rattle.sheets.proofs.look_at.Statement.{statement}
 use Rattle.sheets.proofs.look_at.Tie as tie

@@ -17,7 +17,7 @@ abbrev μ-loop : tie.MeasureT-loop
 μ-loop net pairs ways replies sheet₀ a n b₀ sheet b = n - b
 
 begin-requires : tie.Need-begin-requires Inv-loop μ-loop
-begin-requires c κs = let q = c .before .before .before .before .before .before .pre in (q .1, q .0 .one, q .3, q .4)
+begin-requires c κs = let q = c .before .before .before .before .before .before .pre in (q .1, q .0 .one, q .4, q .5)
 
 count-requires : tie.Need-count-requires Inv-loop μ-loop
 count-requires c κs = search needs
@@ -30,7 +30,7 @@ loop-holds c =
 write-flow-requires : tie.Need-write-flow-requires Inv-loop μ-loop
 write-flow-requires c κs =
     let q = c .before .before .before .before .before .before .before .before .before .before .before .before .before .pre in
-    (record { noted = record { all = q .0 .all; one = q .0 .one; other = omega arith }; known = q .1; bounds = q .2 }, c .before .before .loop .inv .2)
+    (record { noted = record { all = q .0 .all; one = q .0 .one; other = omega arith }; known = q .1; bounds = q .3; long = q .2 }, c .before .before .loop .inv .2)
 
 add-b : tie.Need-add-b Inv-loop μ-loop
 add-b c = search needs
@@ -49,7 +49,7 @@ returns c =
     let q = c .before .before .before .before .before .before .before .before .before .before .before .before .pre in
     let l = c .before .loop in
     let w = l .inv .1 ∙ c .before .before .before .before .before .begin .ensures .1 in
-    (filled-sheet (q .0 .one) (omega arith) (l .inv .2), (filled-shaped (q .0 .one) (omega arith) (l .inv .2) (omega (arith, q .5)), (w, λ p h. omega (arith, l .inv .2 .few p h))))
+    (filled-sheet (q .0 .one) (omega arith) (l .inv .2), (filled-shaped (q .0 .one) (omega arith) (l .inv .2) (omega (arith, q .6)), (w, λ p h. omega (arith, l .inv .2 .few p h))))
 
 pub write-spec : {M : Type 1} → statement M
 write-spec =

@@ -114,7 +114,7 @@ arrival-requires : tie.Need-arrival-requires Inv-loop μ-loop
 arrival-requires c κs =
     let g = c .before .before .before .before .before .before .before .before .before .before .before .before .before .before .before .before .before .pre .0 in
     let n = next (c .before .before) .1 in
-    (g .noted .one, omega (arith, n .on), g .bounds)
+    (g .noted .all .whole, g .noted .one, omega (arith, n .on), g .long, g .bounds)
 
 add-more : tie.Need-add-more Inv-loop μ-loop
 add-more c = search needs
@@ -123,10 +123,12 @@ append-requires : tie.Need-append-requires Inv-loop μ-loop
 append-requires c κs =
     let l = c .before .before .before .before .before .before in
     let i = inside (c .before .before .before .before .before) in
+    let s = l .before .before .before .before .before .before .before .before .before .before .before .before .before in
     let g = l .loop .inv .6 in (
+      s .pre .0 .noted .all .whole,
       omega arith,
       frame-less (l .loop .p) i (g .frame),
-      going-room (l .before .before .before .before .before .before .before .before .before .before .before .before .before .pre .1) i g,
+      going-room (s .pre .1) i g,
       omega arith,
       omega (arith, l .before .before .before .before .delay .ensures .1, c .before .arrival .ensures .1),
       omega (arith, l .before .before .before .jitter .ensures .1, l .before .before .least-way .ensures .1, c .before .before .smallest .ensures .1),
@@ -167,7 +169,7 @@ loop-again c =
       w,
       n .1,
       going-more (s .pre .1) i (l .loop .inv .6) (from-one f (equalAt net a b r f) p (l .loop .inv .0)) (more .ensures .0) (more .ensures .1)
-          (λ v.
+          (omega arith) (λ v.
           equal-made net a b r f p (plus .ensures .0) (smin .ensures .0 v) (t .ensures .0) w (n .0) (l .before .before .before .jitter .ensures .0) (way .ensures .0 v)
           (c .before .before .before .before .arrival .ensures .0)),
     )

@@ -12,7 +12,7 @@ write-own-requires : tie.Need-write-own-requires
 write-own-requires c κs =
     let s = c .before .before .before .before .before .before .before .before in
     let g = s .pre .0 .noted in
-    (g .one, filled-roomy (g .one) (g .other) (s .pre .1))
+    (g .all .whole, g .one, filled-roomy (g .one) (g .other) (s .pre .1))
 
 same-length : tie.Need-same-length
 same-length c = c .before .before .write-own .ensures .1

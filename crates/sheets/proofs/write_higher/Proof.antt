@@ -12,6 +12,7 @@ use Rattle.crossings.specs.Pairs.{costOn}
 use Rattle.sheets.specs.Rows.{lastTo, weightTo, higherAt}
 use Rattle.sheets.specs.Blocks.{fromOn}
 use Rattle.sheets.proofs.Blocks.{frame-less, Going, going-from, going-end, going-room, going-more}
+use Rattle.sheets.proofs.Running.{last-below}
 use Rattle.sheets.proofs.Writing.{from-none, from-one, Shared, shared-first, last-more, weight-none, higher-made}
 use Rattle.sheets.proofs.write_higher.Statement.{statement}
 use Rattle.sheets.proofs.write_higher.Tie as tie
@@ -86,7 +87,9 @@ loop-holds c =
     )
 
 later-requires : tie.Need-later-requires Inv-loop μ-loop
-later-requires c κs = search needs
+later-requires c κs =
+    let g = c .before .before .before .before .before .before .before .before .before .before .before .before .before .pre .0 in
+    (g .noted, inside c)
 
 heavier-requires : tie.Need-heavier-requires Inv-loop μ-loop
 heavier-requires c κs =
@@ -103,17 +106,22 @@ add-less : tie.Need-add-less Inv-loop μ-loop
 add-less c = search needs
 
 look-at-requires : tie.Need-look-at-requires Inv-loop μ-loop
-look-at-requires c κs = let n = next (c .before .before .before) .1 in (omega (arith, n .on), omega arith)
+look-at-requires c κs =
+    let l = c .before .before .before .before .before in
+    let s = l .before .before .before .before .before .before .before .before .before .before .before .before .args in
+    (omega (arith, next (c .before .before .before) .0, last-below (s .net .now) (s .a) (s .b) (l .loop .p)), omega arith)
 
 append-requires : tie.Need-append-requires Inv-loop μ-loop
 append-requires c κs =
     let l = c .before .before .before .before .before .before in
     let i = inside (c .before .before .before .before .before) in
+    let s = l .before .before .before .before .before .before .before .before .before .before .before .before in
     let g = l .loop .inv .6 in (
+      s .pre .0 .noted .all .whole,
       omega arith,
       frame-less (l .loop .p) i (g .frame),
-      going-room (l .before .before .before .before .before .before .before .before .before .before .before .before .pre .1) i g,
-      omega (arith, c .look-at .ensures .1),
+      going-room (s .pre .1) i g,
+      c .look-at .ensures .1,
       omega (arith, l .before .before .before .delay .ensures .1),
       omega (arith, l .before .before .least-way .ensures .1, c .before .before .smallest .ensures .1),
       omega (arith, l .before .period .ensures .1),
@@ -151,7 +159,7 @@ loop-again c =
       w,
       n .1,
       going-more (s .pre .1) i (l .loop .inv .6) (from-one f (higherAt net a b r f) p (l .loop .inv .0)) (more .ensures .0) (more .ensures .1)
-          (λ v.
+          (c .before .before .before .look-at .ensures .1) (λ v.
           higher-made net a b r f p (plus .ensures .0) (smin .ensures .0 v) (t .ensures .0) w (n .0) (c .before .before .before .look-at .ensures .0) (way .ensures .0 v)),
     )
 

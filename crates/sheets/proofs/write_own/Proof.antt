@@ -34,7 +34,7 @@ period-requires c κs = search needs
 
 loop-holds : tie.Need-loop-holds Inv-loop μ-loop
 unfolding maxTo
-loop-holds c = (omega arith, refl, omega arith, refl, going-from (c .before .before .before .before .pre .1) 0 (λ k h. absurd (omega arith)))
+loop-holds c = (omega arith, refl, omega arith, refl, going-from (c .before .before .before .before .pre .2) 0 (λ k h. absurd (omega arith)))
 
 cost-requires : tie.Need-cost-requires Inv-loop μ-loop
 cost-requires c κs = search needs
@@ -47,8 +47,8 @@ append-requires c κs =
     let l = c .before .before .before .before in
     let i = inside (c .before .before .before) in
     let g = l .loop .inv .4 in
-    let room = going-room (l .before .before .before .before .before .pre .1) i g in
-    (omega arith, frame-less (l .loop .p) i (g .frame), room, omega arith, omega arith, omega arith, omega arith, omega arith)
+    let room = going-room (l .before .before .before .before .before .pre .2) i g in
+    (l .before .before .before .before .before .pre .0, omega arith, frame-less (l .loop .p) i (g .frame), room, omega arith, omega arith, omega arith, omega arith, omega arith)
 
 add-p : tie.Need-add-p Inv-loop μ-loop
 add-p c = search needs
@@ -69,8 +69,8 @@ loop-again c =
       more .ensures .1 ∙ l .loop .inv .1,
       omega arith,
       w,
-      going-more (s .pre .1) (inside (c .before .before .before .before .before .before)) (l .loop .inv .4) refl (more .ensures .0) (more .ensures .1)
-          (λ v. own-made net (s .args .a) (l .loop .p) (t .ensures .0) w),
+      going-more (s .pre .2) (inside (c .before .before .before .before .before .before)) (l .loop .inv .4) refl (more .ensures .0) (more .ensures .1)
+          (omega arith) (λ v. own-made net (s .args .a) (l .loop .p) (t .ensures .0) w),
     )
 
 same-length : tie.Need-same-length Inv-loop μ-loop

@@ -1,9 +1,9 @@
 -- `starts::advance_nodes` meets its contract.
 use mathlib.Core.Path.{sym, subst}
 use Prim.Native.Nat.{ℕ, _-_, _≤_, _<_}
-use Rattle.starts.specs.Kept.{stepsAt, KeptAt}
-use Rattle.starts.proofs.Nodes.{shaped-less}
-use Rattle.starts.proofs.Kept.{Noded, noded-none, noded-room, noded-more, noded-left, noded-all}
+use Rattle.blocks.specs.Kept.{KeptAt}
+use Rattle.starts.specs.Kept.{stepsAt}
+use Rattle.starts.proofs.Kept.{shaped-less, Noded, noded-none, noded-room, noded-more, noded-left, noded-all}
 use borrow.Author.Needs.{needs}
 use native.Mathlib.Omega.{arith}
 use Rattle.starts.proofs.advance_nodes.Statement.{statement}
@@ -11,8 +11,8 @@ use Rattle.starts.proofs.advance_nodes.Tie as tie
 use Rattle.starts.proofs.advance_nodes.Reads as reads
 use Rattle.starts.proofs.advance_nodes.Lts as lts
 use Rattle.least.proofs.lesser.Reads as lesser-reads
-use Rattle.starts.proofs.advance_node.Reads as advance-node-reads
-use Rattle.starts.proofs.entries_in.Reads as entries-in-reads
+use Rattle.blocks.proofs.advance_node.Reads as advance-node-reads
+use Rattle.blocks.proofs.entries_in.Reads as entries-in-reads
 
 abbrev Inv-loop : tie.InvT-loop
 Inv-loop e steps₀ m u end next₀ at₀ p₀ steps next at p = (p ≤ m) × Noded e end u steps₀ steps next at p × ((j : ℕ) → p ≤ j → j < m → KeptAt e end (u - 1) steps j (stepsAt e j))

@@ -1,7 +1,6 @@
 -- `starts::begin_nodes` meets its contract.
 use Prim.Native.Nat.{_-_, _≤_}
-use Rattle.starts.proofs.Nodes.{shaped-less}
-use Rattle.starts.proofs.Kept.{Noded, noded-none, noded-room, noded-more, noded-all}
+use Rattle.starts.proofs.Kept.{shaped-less, Noded, noded-none, noded-room, noded-more, noded-all}
 use borrow.Author.Needs.{needs}
 use native.Mathlib.Omega.{arith}
 use Rattle.starts.proofs.begin_nodes.Statement.{statement}
@@ -9,8 +8,8 @@ use Rattle.starts.proofs.begin_nodes.Tie as tie
 use Rattle.starts.proofs.begin_nodes.Reads as reads
 use Rattle.starts.proofs.begin_nodes.Lts as lts
 use Rattle.least.proofs.lesser.Reads as lesser-reads
-use Rattle.starts.proofs.begin_node.Reads as begin-node-reads
-use Rattle.starts.proofs.entries_in.Reads as entries-in-reads
+use Rattle.blocks.proofs.begin_node.Reads as begin-node-reads
+use Rattle.blocks.proofs.entries_in.Reads as entries-in-reads
 
 abbrev Inv-loop : tie.InvT-loop
 Inv-loop e steps₀ m u end next₀ at₀ p₀ steps next at p = (p ≤ m) × Noded e end u steps₀ steps next at p

@@ -1,12 +1,12 @@
 -- `starts::instant` meets its contract.
 use Prim.Native.Nat.{_+_, _-_}
-use Rattle.starts.proofs.Nodes.{Going, going-start, first-set, going-past, begin-small, going-more, going-end, shaped-less}
-use Rattle.starts.proofs.Kept.{steps-none, steps-next, steps-apart}
+use Rattle.starts.proofs.Nodes.{Going, going-start, first-set, going-past, begin-small, going-more, going-end}
+use Rattle.starts.proofs.Kept.{shaped-less, steps-none, steps-next, steps-apart}
 use mathlib.Core.Path.{_≡_, sym, ap, _∙_}
 use lib.ListN.{length-set}
 use Rattle.least.specs.Lists.{values}
 use Rattle.starts.specs.Kept.{stepsAt}
-use Rattle.starts.specs.Sheet.{nodeSlot, instantSum}
+use Rattle.blocks.specs.Sheet.{nodeSlot, instantSum}
 use borrow.Author.Needs.{needs}
 use native.Mathlib.Omega.{arith}
 use Rattle.starts.proofs.instant.Statement.{statement}
@@ -15,8 +15,8 @@ use Rattle.starts.proofs.instant.Reads as reads
 use Rattle.starts.proofs.instant.Lts as lts
 use Rattle.least.proofs.greater.Reads as greater-reads
 use Rattle.least.proofs.less.Reads as less-reads
-use Rattle.starts.proofs.block_at.Reads as block-at-reads
-use Rattle.starts.proofs.entries_in.Reads as entries-in-reads
+use Rattle.blocks.proofs.block_at.Reads as block-at-reads
+use Rattle.blocks.proofs.entries_in.Reads as entries-in-reads
 use Rattle.starts.proofs.start_at.Reads as start-at-reads
 
 abbrev Inv-loop : tie.InvT-loop
@@ -81,7 +81,7 @@ returns c =
     let a = c .before .before .before .before .before .before .before .before .before .before .before .before .before .before in
     let l = c .before .before .before .before .before .before .before .before .before .loop in
     let s = c .before .before .before .before .start-at in
-    (λ W f t g. going-past (a .args .e .now) (a .args .m) (a .args .u) _ _ (l .slots) (l .best) (l .p) (l .inv .0) (omega arith) (s .result) (s .ensures .0) (c .enum-told .given .1) W f t (first-set (a .args .e .now) (a .args .m) (a .args .u) (a .args .slots .now) W g), ((s .ensures .1 .1 .small, s .ensures .1 .1 .long ∙ l .inv .0 .long ∙ length-set (a .args .slots .now) 1 (a .args .u)), (l .inv .0 .low, l .inv .0 .behind)))
+    (λ W t g. going-past (a .args .e .now) (a .args .m) (a .args .u) _ _ (l .slots) (l .best) (l .p) (l .inv .0) (omega arith) (a .pre .0 .0 .looks) (s .result) (s .ensures .0) (c .enum-told .given .1) W t (first-set (a .args .e .now) (a .args .m) (a .args .u) (a .args .slots .now) W g), ((s .ensures .1 .1 .small, s .ensures .1 .1 .long ∙ l .inv .0 .long ∙ length-set (a .args .slots .now) 1 (a .args .u)), (l .inv .0 .low, l .inv .0 .behind)))
 
 add-slots : tie.Need-add-slots Inv-loop μ-loop
 add-slots c = search needs
@@ -111,7 +111,7 @@ add-less c =
     let a = c .before .before .before .before .before .before .before .before .before .before .before .before .before .before .before .before .before in
     let l = c .before .before .before .before .before .before .before .before .before .before .before .before .loop in
     let s = c .before .before .before .before .before .before .before .start-at in
-    omega (arith, a .pre .0 .1, a .pre .0 .0 .small (c .before .block-at .result + 1), begin-small (a .args .e .now) (a .args .m) (a .args .u) _ _ (l .slots) (l .best) (l .p) (l .inv .0) (omega arith) (s .result) (s .ensures .0) (s .ensures .1 .0) _ (c .before .before .before .w .given .1))
+    omega (arith, a .pre .0 .1, a .pre .0 .0 .small (c .before .block-at .result + 1), begin-small (a .args .e .now) (a .args .m) (a .args .u) _ _ (l .slots) (l .best) (l .p) (l .inv .0) (omega arith) (a .pre .0 .0 .looks) (s .result) (s .ensures .0) (s .ensures .1 .0) _ (c .before .before .before .w .given .1))
 
 less-requires : tie.Need-less-requires Inv-loop μ-loop
 less-requires c κs = search needs
@@ -157,7 +157,7 @@ loop-again c =
     let l = c .before .before .before .before .before .before .before .before .before .before .before .before .before .before .before .before .loop in
     let s = c .before .before .before .before .before .before .before .before .before .before .before .start-at in
     let add = ap (λ x. values (a .args .e .now) (x + 1)) (c .before .before .before .before .before .block-at .ensures .0) in
-    (going-more (a .args .e .now) (a .args .m) (a .args .u) _ _ (l .slots) (l .best) (l .p) (l .inv .0) (omega arith) (s .result) (s .ensures .0) (s .ensures .1 .0) _ (c .before .before .before .before .before .before .before .w .given .1) (s .last .1 .0) (s .ensures .1 .1) (c .before .greater .result) (omega arith) (a .pre .0 .1), omega (arith, l .inv .1, c .entries-in .ensures .0, steps-next (a .args .e .now) (l .p)))
+    (going-more (a .args .e .now) (a .args .m) (a .args .u) _ _ (l .slots) (l .best) (l .p) (l .inv .0) (omega arith) (a .pre .0 .0 .looks) (s .result) (s .ensures .0) (s .ensures .1 .0) _ (c .before .before .before .before .before .before .before .w .given .1) (s .last .1 .0) (s .ensures .1 .1) (c .before .greater .result) (omega arith) (a .pre .0 .1), omega (arith, l .inv .1, c .entries-in .ensures .0, steps-next (a .args .e .now) (l .p)))
 
 same-length-3 : tie.Need-same-length-3 Inv-loop μ-loop
 same-length-3 c =
@@ -172,7 +172,7 @@ returns-2 : tie.Need-returns-2 Inv-loop μ-loop
 returns-2 c =
     let a = c .before .before .before .before .before .before in
     let l = c .before .loop in
-    (λ W f s g. going-end (a .args .e .now) (a .args .m) (a .args .u) _ _ (l .slots) (l .best) (l .p) (l .inv .0) (omega arith) W f s (first-set (a .args .e .now) (a .args .m) (a .args .u) (a .args .slots .now) W g), ((l .inv .0 .small, l .inv .0 .long ∙ length-set (a .args .slots .now) 1 (a .args .u)), (l .inv .0 .low, l .inv .0 .behind)))
+    (λ W s g. going-end (a .args .e .now) (a .args .m) (a .args .u) _ _ (l .slots) (l .best) (l .p) (l .inv .0) (omega arith) W s (first-set (a .args .e .now) (a .args .m) (a .args .u) (a .args .slots .now) W g), ((l .inv .0 .small, l .inv .0 .long ∙ length-set (a .args .slots .now) 1 (a .args .u)), (l .inv .0 .low, l .inv .0 .behind)))
 
 pub instant-spec : {M : Type 1} → statement M
 instant-spec =

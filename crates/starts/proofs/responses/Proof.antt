@@ -90,7 +90,7 @@ loop-again c =
     let l = c .before .before .before .before .before .before .before .before .before .before .before .before .before .before .loop in
     let i = c .before .before .before .before .before .instant in
     let k = c .before .before .before .before .before .before .before .before .before .before .before .keep in
-    (tried-next (a .args .e .now) (a .args .m) (a .args .end) (l .slots) (l .best) (l .u) (l .inv .0) (c .before .before .before .before .before .before .before .before .before .before .before .before .before .loop-test .taken) (i .last .1 .0) (i .last .1 .1 .1 .0) (i .result) (i .ensures .0) (search needs) (i .ensures .1 .0 .0) (i .ensures .1 .1 .0) (k .result) (k .ensures .0 .1), i .ensures .1 .0 .1 ∙ l .inv .1, behind-then (l .inv .2) (i .ensures .1 .1 .1), k .ensures .1 ∙ l .inv .3, λ h. kept-on (a .args .e .now) (a .args .end) (l .u) (a .args .m) (k .result) (k .last .1 .0) (k .ensures .0 .0) (k .ensures .0 .1))
+    (tried-next (a .args .e .now) (a .args .m) (a .args .end) (l .slots) (l .best) (l .u) (l .inv .0) (c .before .before .before .before .before .before .before .before .before .before .before .before .before .loop-test .taken) (i .last .1 .0) (i .last .1 .1 .1 .0) (i .result) (i .ensures .0) (search needs) (i .ensures .1 .0 .0) (i .ensures .1 .1 .0) (a .pre .0 .0 .looks) (k .result) (k .ensures .0 .1), i .ensures .1 .0 .1 ∙ l .inv .1, behind-then (l .inv .2) (i .ensures .1 .1 .1), k .ensures .1 ∙ l .inv .3, λ h. kept-on (a .args .e .now) (a .args .end) (l .u) (a .args .m) (k .result) (k .last .1 .0) (k .ensures .0 .0) (k .ensures .0 .1))
 
 same-length-4 : tie.Need-same-length-4 Inv-loop μ-loop
 same-length-4 c = c .before .loop .inv .1 ∙ c .before .before .before .before .before .before .before .before .clear .ensures .1 .long

@@ -1,7 +1,7 @@
 -- `starts::start_at` meets its contract.
 use Rattle.starts.proofs.Climb.{Climbs, kept-none, kept-set, climbs-more, climbs-at, climbs-past}
 use Rattle.starts.specs.Begins.{Kept}
-use Rattle.starts.specs.Sheet.{mostTime, instantSlot, added, instantSum}
+use Rattle.blocks.specs.Sheet.{mostTime, instantSlot, added, instantSum}
 use Rattle.least.specs.Lists.{values}
 use Prim.Native.Nat.{_+_, _-_, _<_}
 use mathlib.Core.Path.{_≡_, refl, sym, ap, _∙_}
@@ -11,8 +11,8 @@ use Rattle.starts.proofs.start_at.Statement.{statement}
 use Rattle.starts.proofs.start_at.Tie as tie
 use Rattle.starts.proofs.start_at.Reads as reads
 use Rattle.starts.proofs.start_at.Lts as lts
-use Rattle.starts.proofs.block_at.Reads as block-at-reads
-use Rattle.starts.proofs.sum_at.Reads as sum-at-reads
+use Rattle.blocks.proofs.block_at.Reads as block-at-reads
+use Rattle.blocks.proofs.sum_at.Reads as sum-at-reads
 
 abbrev Inv-loop : tie.InvT-loop
 Inv-loop e v₀ p kept from at add last w₀ v w = (add ≡ added e p) × (last ≡ mostTime + values v₀ instantSlot) × Kept v₀ v × Climbs e p v₀ from w × (w < 2305843009213693952)
@@ -41,7 +41,7 @@ add-last c = search needs
 loop-holds : tie.Need-loop-holds Inv-loop μ-loop
 loop-holds c =
     let a = c .before .before .before .before .before in
-    (ap (λ x. values (a .args .e .now) (x + 1)) (c .before .before .block-at .ensures .0), refl, kept-none (a .pre .1), λ f u. u, omega arith)
+    (ap (λ x. values (a .args .e .now) (x + 1)) (c .before .before .block-at .ensures .0), refl, kept-none (a .pre .1), λ u. u, omega arith)
 
 add-loop : tie.Need-add-loop Inv-loop μ-loop
 add-loop c =
@@ -56,7 +56,7 @@ sum-at-requires c κs =
     let a = c .before .before .before .before .before .before .before .before in
     let l = c .before .before .loop in
     let k = kept-set (a .args .v .now) (l .v) (l .inv .2) (omega arith) (l .w) (omega arith) in
-    (a .pre .0, k .small, a .pre .4 ∙ ap (instantSum (a .args .e .now) (a .args .p)) (sym (k .others instantSlot (λ z. omega arith))))
+    (a .pre .0, k .small, omega (arith, k .long), a .pre .4 ∙ ap (instantSum (a .args .e .now) (a .args .p)) (sym (k .others instantSlot (λ z. omega arith))))
 
 same-length : tie.Need-same-length Inv-loop μ-loop
 same-length c = search needs
@@ -76,7 +76,7 @@ loop-again c =
     let a = c .before .before .before .before .before .before .before .before .before .before in
     let l = c .before .before .before .before .loop in
     let s = c .before .sum-at in
-    (l .inv .0, refl, kept-set (a .args .v .now) (l .v) (l .inv .2) (omega arith) (l .w) (omega arith), climbs-more (a .args .e .now) (a .args .p) (a .args .v .now) (l .v) (a .args .from) (l .w) (l .inv .2) (omega arith) (l .inv .3) (s .result) (s .ensures .0), omega arith)
+    (l .inv .0, refl, kept-set (a .args .v .now) (l .v) (l .inv .2) (omega arith) (l .w) (omega arith), climbs-more (a .args .e .now) (a .args .p) (a .args .v .now) (l .v) (a .args .from) (l .w) (l .inv .2) (omega arith) (l .inv .3) (s .result) (s .ensures .0) (a .pre .0 .looks), omega arith)
 
 same-length-2 : tie.Need-same-length-2 Inv-loop μ-loop
 same-length-2 c = search needs

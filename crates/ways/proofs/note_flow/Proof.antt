@@ -7,7 +7,8 @@ use borrow.Author.Needs.{needs}
 use Rattle.nets.specs.Nets.{lengthIn}
 use Rattle.least.specs.Fold.{sumTo}
 use Rattle.ways.specs.Whole.{sminOver, wayOver, term5Over}
-use Rattle.ways.proofs.Noting.{smin-more, way-more, term5-more, going-start, room-left, going-more, going-end, Going}
+use Rattle.ways.proofs.Noted.{there}
+use Rattle.ways.proofs.Noting.{smin-more, way-more, term5-more, going-start, going-more, going-end, Going}
 use Rattle.ways.proofs.note_flow.Statement.{statement}
 use Rattle.ways.proofs.note_flow.Tie as tie
 
@@ -29,7 +30,8 @@ room : (c : tie.After-lower-less-one Inv-loop μ-loop) → let i = c .before in 
 room c =
     let i = c .before in
     let s = i .before .before .before .before .before .before .before in
-    room-left (s .args .net .now) (i .way-at .result) (i .before .before .loop .inv .0) (s .pre .1) (s .pre .0 .one) (omega arith) (i .way-at .ensures .0)
+    let l = i .before .before .loop in
+    there (s .args .net .now) (l .ways) (s .args .a) (l .k) (i .way-at .result) (i .way-at .ensures .0) (omega (arith, s .pre .1, l .inv .0 .ahead .long)) (s .pre .0 .one) (omega arith)
 
 hops-requires : tie.Need-hops-requires Inv-loop μ-loop
 hops-requires c κs = search needs

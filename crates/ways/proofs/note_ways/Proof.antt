@@ -23,7 +23,10 @@ loop-holds : tie.Need-loop-holds Inv-loop μ-loop
 loop-holds c = (search needs, search needs, λ b h. absurd (omega arith))
 
 note-flow-requires : tie.Need-note-flow-requires Inv-loop μ-loop
-note-flow-requires c κs = search needs
+note-flow-requires c κs =
+    let l = c .before .before .loop in
+    let s = c .before .before .before .before .before .before .before in
+    (record { all = s .pre .0; one = omega arith; other = omega arith }, omega (arith, l .inv .1, s .pre .1))
 
 add-a : tie.Need-add-a Inv-loop μ-loop
 add-a c = search needs
@@ -47,8 +50,11 @@ same-length c = search needs
 returns : tie.Need-returns Inv-loop μ-loop
 returns c =
     let l = c .before .loop in
-    let s = c .before .before .before .before .before .before in
-    (flows-end (s .args .net .now) (l .a) (c .before .before .count .result) (l .inv .2) (c .before .before .count .ensures .0) (omega arith), l .inv .1)
+    let s = c .before .before .before .before .before .before in (
+      flows-end (s .args .net .now) (l .a) (c .before .before .count .result) (l .inv .2) (c .before .before .count .ensures .0) (omega arith)
+          (omega (arith, l .inv .1, s .pre .1)) (s .pre .0 .whole),
+      l .inv .1,
+    )
 
 pub note-ways-spec : {M : Type 1} → statement M
 note-ways-spec =

@@ -1,0 +1,5 @@
+-- The laws of `blocks`.
+pub mod Terms
+pub mod Looks
+pub mod Steps
+pub mod Kept

@@ -1,0 +1,19 @@
+-- What a walk over the instants keeps of a node: what of its sum hangs on the instant alone, then the next step of each entry.
+use mathlib.Core.Path.{_≡_}
+use mathlib.Core.List.{List}
+use Prim.Native.Nat.{ℕ, _+_, _≤_, _<_}
+use lib.ListN.{length}
+use Rattle.least.specs.Lists.{values}
+use Rattle.blocks.specs.Sheet.{entriesIn, entryAt, instantSum}
+use Rattle.blocks.specs.Steps.{EntryStep}
+
+-- at a place
+pub record KeptAt (e : List ℕ) (end u : ℕ) (steps : List ℕ) (p at : ℕ) : Type 0 where
+  pub sum : values steps at ≡ instantSum e p u
+  pub each : (q : ℕ) → q < entriesIn e p → EntryStep e (entryAt e p q) u end (values steps (at + 1 + q))
+
+-- no place but those from a up to b is changed
+pub record Inside (a b : ℕ) (l l′ : List ℕ) : Type 0 where
+  pub before : (k : ℕ) → k < a → values l′ k ≡ values l k
+  pub behind : (k : ℕ) → b ≤ k → values l′ k ≡ values l k
+  pub long : length l′ ≡ length l

@@ -1,0 +1,2 @@
+-- The laws of `drawing`.
+pub mod Drawing

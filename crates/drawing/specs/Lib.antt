@@ -1,0 +1,2 @@
+-- The definitions of `drawing`.
+pub mod Drawing

@@ -1,0 +1,3 @@
+-- The laws of `findings`.
+pub mod Firsts
+pub mod Findings

@@ -1,0 +1,2 @@
+-- The definitions of `findings`.
+pub mod Findings
