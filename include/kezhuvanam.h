@@ -7,7 +7,7 @@
    Stack: a call takes 21 KiB of stack, whatever the plan. A thread with less dies. The calls on a report alone take at most 4 KiB.
 
    Time: a call on a report ends at once. A call on a plan ends on any plan, but how long it takes hangs on the plan's numbers and not on its
-   length, and nothing stops it before. This plan of 210 bytes takes over a minute: six flows of one priority, Lmin = Lmax = 1, J = 0, D = 65,535,
+   length, and nothing stops it before. This plan of 210 bytes takes about a minute: six flows of one priority, Lmin = Lmax = 1, J = 0, D = 65,535,
    every cost 1 but the last flow's, which is 2; three flows with T 3, 3 and 4 on seven nodes in the orders 2 6 5 7 4 1 3, 6 1 5 2 7 3 4 and 7
    5 2 3 1 6 4; three with T 13, 157 and 65,535 on node 1 alone. So who must stay responsive calls on a thread of its own. */
 #ifndef KEZHUVANAM_H

@@ -32,13 +32,17 @@ const BEFORE: Option<Judge> = Some(before);
 const BEFORE: Option<Judge> = None;
 
 fn plain_judge(plan: &[u8]) -> u64 {
-    let set = plain::read(plan);
-    plain::judge(&plain::prepare(&set), Walk::Steps, &mut Counts::default()).answer
+    match plain::read(plan) {
+        Ok(set) => plain::judge(&plain::prepare(&set), Walk::Steps, &mut Counts::default()).answer,
+        Err(refusal) => refusal,
+    }
 }
 
 /// What the plain program does before the first turn.
 fn plain_prepare(plan: &[u8]) -> u64 {
-    black_box(plain::prepare(&plain::read(plan)));
+    if let Ok(set) = plain::read(plan) {
+        black_box(plain::prepare(&set));
+    }
     0
 }
 
@@ -57,7 +61,7 @@ fn run(judge: Judge, plan: &[u8], times: u32) -> Timed {
     Timed { answer, least }
 }
 
-const RUNS: u32 = 20;
+const RUNS: u32 = 60;
 
 /// How many runs there is time for, and how often each judges the plan; none beyond the first, if that took all of the time.
 fn runs_in(span: Duration, once: Duration) -> (u32, u32) {
@@ -88,7 +92,7 @@ struct Walked {
 }
 
 fn walked(plan: &[u8], walk: Walk) -> Walked {
-    let set = plain::read(plan);
+    let set = plain::read(plan).expect("a plan of the bench is well formed");
     let prepared = plain::prepare(&set);
     let mut counts = Counts::default();
     let start = Instant::now();

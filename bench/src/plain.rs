@@ -1,4 +1,4 @@
-//! The engine's algorithm in plain Rust: prepare once, try the instants at which a count steps up, settle flow by flow. For comparison
+//! The library's algorithm in plain Rust: read and test a plan, prepare once, try the instants at which a count steps up, settle flow by flow. For comparison
 //! every tick can be tried instead.
 
 pub const HORIZON: u64 = 65535;
@@ -61,33 +61,87 @@ fn word(b: &[u8], at: usize) -> u64 {
     b[at] as u64 * 256 + b[at + 1] as u64
 }
 
-/// A plan that is known to be well formed.
-pub fn read(plan: &[u8]) -> Set {
+/// A body of n bytes behind a kind byte.
+fn body(plan: &[u8], at: usize, n: usize) -> Option<&[u8]> {
+    plan.get(at + 1..at + 1 + n)
+}
+
+fn flow(b: &[u8]) -> Flow {
+    let mut f = Flow {
+        number: b[0],
+        priority: b[1],
+        period: word(b, 2),
+        jitter: word(b, 4),
+        deadline: word(b, 6),
+        length: b[8] as usize,
+        ..Flow::default()
+    };
+    for k in 0..NODES {
+        f.nodes[k] = b[9 + k];
+        f.costs[k] = word(b, 17 + 2 * k);
+    }
+    f
+}
+
+/// 2, 3 or 4; 0 for a flow that is well formed.
+fn flow_cause(f: &Flow) -> u64 {
+    let ranged = |k: usize| match k < f.length {
+        true => f.nodes[k] != 0 && (1..=4095).contains(&f.costs[k]),
+        false => f.nodes[k] == 0 && f.costs[k] == 0,
+    };
+    if f.number == 0 {
+        2
+    } else if f.period == 0
+        || f.deadline == 0
+        || !(1..=NODES).contains(&f.length)
+        || !(0..NODES).all(ranged)
+    {
+        3
+    } else if (1..f.length).any(|k| f.nodes[..k].contains(&f.nodes[k])) {
+        4
+    } else {
+        0
+    }
+}
+
+/// The set that a plan lists, or the refusal as one number.
+pub fn read(plan: &[u8]) -> Result<Set, u64> {
+    let refused = |number: u64, at: usize| Err(number + 65536 * at as u64);
+    let Some(b) = body(plan, 0, 4).filter(|_| plan[0] == 1) else {
+        return refused(12, 0);
+    };
     let mut set = Set {
-        lmin: word(plan, 1),
-        lmax: word(plan, 3),
+        lmin: word(b, 0),
+        lmax: word(b, 2),
         flows: Vec::new(),
     };
+    if set.lmin > set.lmax || set.lmax > 4095 {
+        return refused(1, 0);
+    }
+    let mut last = 0;
     let mut at = 5;
-    while plan[at] == 2 {
-        let b = &plan[at + 1..at + 34];
-        let mut f = Flow {
-            number: b[0],
-            priority: b[1],
-            period: word(b, 2),
-            jitter: word(b, 4),
-            deadline: word(b, 6),
-            length: b[8] as usize,
-            ..Flow::default()
+    while plan.get(at) == Some(&2) {
+        let Some(b) = body(plan, at, 33) else {
+            return refused(12, at);
         };
-        for k in 0..NODES {
-            f.nodes[k] = b[9 + k];
-            f.costs[k] = word(b, 17 + 2 * k);
+        let f = flow(b);
+        if f.number != 0 && f.number <= last {
+            return refused(12, at);
         }
+        match flow_cause(&f) {
+            0 if set.flows.len() == FLOWS => return refused(6, at),
+            0 => {}
+            number => return refused(number, at),
+        }
+        last = f.number;
         set.flows.push(f);
         at += 34;
     }
-    set
+    match plan.get(at) {
+        Some(0x7f) if at + 1 == plan.len() => Ok(set),
+        Some(0x7f) => refused(12, at + 1),
+        _ => refused(12, at),
+    }
 }
 
 fn position(f: &Flow, node: u8) -> usize {
@@ -371,10 +425,13 @@ fn term(e: &Entry, seen: u64) -> u64 {
     (1 + (x - e.less) / e.period) * e.weight
 }
 
-/// What is kept of a node along the walk: the part of its sum that hangs on nothing but the instant, and the next step of each entry.
+/// What is kept of a node along the walk: the part of its sum that hangs on nothing but the instant, its next step, whether an entry looks
+/// elsewhere, and the next step of each entry.
 #[derive(Clone, Copy, Default)]
 struct Kept {
     sum: u64,
+    next: u64,
+    looking: bool,
     steps: [u64; FLOWS],
 }
 
@@ -394,6 +451,7 @@ impl Block {
     fn begin(&self, kept: &mut Kept, u: u64, end: u64) -> u64 {
         let mut next = end;
         kept.sum = self.base;
+        kept.looking = self.entries[..self.count].iter().any(|e| e.look != INSTANT);
         for (step, e) in kept.steps.iter_mut().zip(&self.entries[..self.count]) {
             if e.look == INSTANT {
                 kept.sum += term(e, u);
@@ -401,10 +459,14 @@ impl Block {
             *step = step_after(e, u, end);
             next = next.min(*step);
         }
+        kept.next = next;
         next
     }
 
     fn advance(&self, kept: &mut Kept, u: u64, end: u64) -> u64 {
+        if kept.next != u {
+            return kept.next;
+        }
         let mut next = end;
         for (step, e) in kept.steps.iter_mut().zip(&self.entries[..self.count]) {
             if *step == u {
@@ -413,10 +475,14 @@ impl Block {
             }
             next = next.min(*step);
         }
+        kept.next = next;
         next
     }
 
     fn sum(&self, kept: &Kept, v: &[u64; SLOTS]) -> u64 {
+        if !kept.looking {
+            return kept.sum;
+        }
         let entries = &self.entries[..self.count];
         let looking = entries.iter().filter(|e| e.look != INSTANT);
         kept.sum + looking.map(|e| term(e, v[e.look % SLOTS])).sum::<u64>()

@@ -215,7 +215,7 @@ fn wide_plan(chance: &mut Chance) -> Vec<u8> {
 }
 
 fn has_busy_lengths(plan: &[u8]) -> bool {
-    let set = plain::read(plan);
+    let set = plain::read(plan).expect("a generated plan is well formed");
     let verdict = plain::judge(&plain::prepare(&set), Walk::Steps, &mut Counts::default());
     verdict.answer % 256 != 8
 }

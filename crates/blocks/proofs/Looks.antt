@@ -9,8 +9,9 @@ use lib.Dec.{eqb}
 use borrow.Author.Tests.{eq-eqb, ne-eqb, eqb-true, eqb-false}
 use Rattle.least.specs.Fold.{sumTo}
 use Rattle.least.specs.Lists.{values}
-use Rattle.least.proofs.Fold.{sum-to-add, sum-to-ext}
+use Rattle.least.proofs.Fold.{sum-to-add, sum-to-ext, sum-to-none}
 use Rattle.blocks.specs.Sheet.{headSize, entrySize, instantSlot, blockAt, entriesIn, entryAt, termOf, instantTerm, lookTerm, instantSum, sheetSum}
+use Rattle.blocks.specs.Kept.{Looking}
 use Rattle.blocks.proofs.Terms.{instant-here, instant-not}
 
 module _ (e : List ℕ) (k : ℕ) (v : ℕ → ℕ) where
@@ -60,3 +61,11 @@ module _ (e : List ℕ) (p : ℕ) (v : ℕ → ℕ) where
 
   pub look-all : (q s k : ℕ) → s ≡ k + lookTo e p v q → k ≡ instantSum e p (v instantSlot) → q ≡ entriesIn e p → s ≡ sheetSum e p v
   look-all q s k h is all = omega (arith, ap (lookTo e p v) all, sheet-split)
+
+  -- where each looks at the instant
+  pub look-never : (n k : ℕ) → Looking e p n → n ≡ 0 → k ≡ instantSum e p (v instantSlot) → k ≡ sheetSum e p v
+  look-never n k looks none is = omega (
+    arith,
+    sheet-split,
+    sum-to-none (entriesIn e p) (λ q. lookTerm e v (entryAt e p q)) (λ q h. sym (look-not e (entryAt e p q) v (looks none q h))),
+  )

@@ -8,13 +8,16 @@ ghost use Rattle.least.specs.Lists.{values};
 ghost use Rattle.least.specs.Steps.{Step};
 ghost use Rattle.blocks.specs.Sheet.{mostTime, entrySize, instantSlot, nodeSlot, blockAt, entriesIn, entryAt, termOf, instantTerm, lookTerm, instantSum, sheetSum, Small, Shaped};
 ghost use Rattle.blocks.specs.Steps.{EntryStep, NodeStep};
-ghost use Rattle.blocks.specs.Kept.{KeptAt, Inside};
+ghost use Rattle.blocks.specs.Kept.{keptSize, Looking, KeptAt, Inside};
 
 // A block for each node: what hangs on nothing, what a response bound adds to W, how many entries there are; then the entries.
 pub const HEAD: usize = 3;
 
 // An entry: where the count looks, what is added, what is taken off, period, weight.
 pub const ENTRY: usize = 5;
+
+// What is kept of a node before its entries' steps: what of the sum hangs on the instant alone, its next step, whether an entry looks at a starting time.
+pub const KEPT: usize = 3;
 
 // Where a count may look: the starting time sought, the instant, then the starting times at the nodes of the path.
 pub const HERE: usize = 0;
@@ -88,16 +91,8 @@ pub fn block_at(e: &[u64], p: usize) -> usize
     1 + p * e[0] as usize
 }
 
-// How many entries it has.
-pub fn entries_in(e: &[u64], p: usize) -> usize
-    requires { ⌜ Shaped (now e) (p + 1) ⌝ }
-    ensures { λ r. ⌜ (r ≡ entriesIn (now (e .entry)) p) × (r ≤ 1024) ⌝ }
-{
-    e[block_at(e, p) + 2] as usize
-}
-
 // The sum at node p, from what of it hangs on the instant alone.
-pub fn sum_at(e: &[u64], v: &[u64], p: usize, kept: u64) -> u64
+fn sum_looking(e: &[u64], v: &[u64], p: usize, kept: u64) -> u64
     requires { ⌜ Shaped (now e) (p + 1) × Small (now v) × (nodeSlot p < length (now v)) × (kept ≡ instantSum (now e) p (values (now v) instantSlot)) ⌝ }
     ensures { λ r. ⌜ r ≡ sheetSum (now (e .entry)) p (values (now (v .entry))) ⌝ }
     ensures { λ r. ⌜ r < 2305843009213693952 ⌝ }
@@ -111,6 +106,35 @@ pub fn sum_at(e: &[u64], v: &[u64], p: usize, kept: u64) -> u64
         q += 1;
     }
     sum
+}
+
+// The same; where no count looks at a starting time, nothing is added.
+pub fn sum_at(e: &[u64], v: &[u64], p: usize, kept: u64, looks: u64) -> u64
+    requires { ⌜ Shaped (now e) (p + 1) × Small (now v) × (nodeSlot p < length (now v)) × (kept ≡ instantSum (now e) p (values (now v) instantSlot)) × Looking (now e) p looks ⌝ }
+    ensures { λ r. ⌜ r ≡ sheetSum (now (e .entry)) p (values (now (v .entry))) ⌝ }
+    ensures { λ r. ⌜ r < 2305843009213693952 ⌝ }
+{
+    if looks == 0 {
+        return kept;
+    }
+    sum_looking(e, v, p, kept)
+}
+
+// Whether a count of node p looks at a starting time, as a number.
+fn looks_in(e: &[u64], p: usize) -> u64
+    requires { ⌜ Shaped (now e) (p + 1) ⌝ }
+    ensures { λ r. ⌜ Looking (now (e .entry)) p r ⌝ }
+{
+    let at = block_at(e, p);
+    let n = e[at + 2] as usize;
+    let mut q: usize = 0;
+    while q < n {
+        if e[at + HEAD + q * ENTRY] as usize != INSTANT {
+            return 1;
+        }
+        q += 1;
+    }
+    0
 }
 
 // The first instant after u at which count(u + a − b, T) steps up; the end, if there is none before it.
@@ -146,11 +170,11 @@ fn entry_step(e: &[u64], k: usize, u: u64, end: u64) -> u64
     step_after(plus, less, period, u, end)
 }
 
-// Keeps at a place what of the sum at node p hangs on the instant alone, behind it each entry's next step after u; gives the first of these.
+// Keeps at a place what of the sum at node p hangs on the instant alone, its next step after u, and behind these each entry's; gives the node's.
 pub fn begin_node(e: &[u64], steps: &mut [u64], p: usize, at: usize, u: u64, end: u64) -> u64
-    requires { ⌜ Shaped (now e) (p + 1) × (u < end) × (end ≤ mostTime) × (at + 1 + entriesIn (now e) p ≤ length (now steps)) × (length (now steps) ≤ 16777216) ⌝ }
+    requires { ⌜ Shaped (now e) (p + 1) × (u < end) × (end ≤ mostTime) × (at + keptSize + entriesIn (now e) p ≤ length (now steps)) × (length (now steps) ≤ 16777216) ⌝ }
     ensures { λ r. ⌜ KeptAt (now (e .entry)) end u (now (steps .exit)) p at × NodeStep (now (e .entry)) p u end r ⌝ }
-    ensures { λ r. ⌜ Inside at (at + 1 + entriesIn (now (e .entry)) p) (now (steps .entry)) (now (steps .exit)) ⌝ }
+    ensures { λ r. ⌜ Inside at (at + keptSize + entriesIn (now (e .entry)) p) (now (steps .entry)) (now (steps .exit)) ⌝ }
 {
     let block = block_at(e, p);
     let n = e[block + 2] as usize;
@@ -160,12 +184,14 @@ pub fn begin_node(e: &[u64], steps: &mut [u64], p: usize, at: usize, u: u64, end
     while q < n {
         let k = block + HEAD + q * ENTRY;
         let step = entry_step(e, k, u, end);
-        steps[at + 1 + q] = step;
+        steps[at + KEPT + q] = step;
         sum += instant_term(e, k, u);
         next = least::lesser(next, step);
         q += 1;
     }
     steps[at] = sum;
+    steps[at + 1] = next;
+    steps[at + 2] = looks_in(e, p);
     next
 }
 
@@ -192,12 +218,12 @@ fn advance_entry(
     sum + e[k + 4]
 }
 
-// Takes what is kept of node p from the tick before u to u.
-pub fn advance_node(e: &[u64], steps: &mut [u64], p: usize, at: usize, u: u64, end: u64) -> u64
-    requires { ⌜ Shaped (now e) (p + 1) × (0 < u) × (u < end) × (end ≤ mostTime) × (at + 1 + entriesIn (now e) p ≤ length (now steps)) × (length (now steps) ≤ 16777216) ⌝ }
+// Takes what is kept of node p from the tick before u to u, at which it steps.
+fn step_node(e: &[u64], steps: &mut [u64], p: usize, at: usize, u: u64, end: u64) -> u64
+    requires { ⌜ Shaped (now e) (p + 1) × (0 < u) × (u < end) × (end ≤ mostTime) × (at + keptSize + entriesIn (now e) p ≤ length (now steps)) × (length (now steps) ≤ 16777216) ⌝ }
     requires { ⌜ KeptAt (now e) end (u - 1) (now steps) p at ⌝ }
     ensures { λ r. ⌜ KeptAt (now (e .entry)) end u (now (steps .exit)) p at × NodeStep (now (e .entry)) p u end r ⌝ }
-    ensures { λ r. ⌜ Inside at (at + 1 + entriesIn (now (e .entry)) p) (now (steps .entry)) (now (steps .exit)) ⌝ }
+    ensures { λ r. ⌜ Inside at (at + keptSize + entriesIn (now (e .entry)) p) (now (steps .entry)) (now (steps .exit)) ⌝ }
 {
     let block = block_at(e, p);
     let n = e[block + 2] as usize;
@@ -205,10 +231,33 @@ pub fn advance_node(e: &[u64], steps: &mut [u64], p: usize, at: usize, u: u64, e
     let mut next = end;
     let mut q: usize = 0;
     while q < n {
-        sum = advance_entry(e, steps, block + HEAD + q * ENTRY, at + 1 + q, u, end, sum);
-        next = least::lesser(next, steps[at + 1 + q]);
+        sum = advance_entry(
+            e,
+            steps,
+            block + HEAD + q * ENTRY,
+            at + KEPT + q,
+            u,
+            end,
+            sum,
+        );
+        next = least::lesser(next, steps[at + KEPT + q]);
         q += 1;
     }
     steps[at] = sum;
+    steps[at + 1] = next;
     next
+}
+
+// Takes what is kept of node p from the tick before u to u: as it is, if the node does not step there.
+pub fn advance_node(e: &[u64], steps: &mut [u64], p: usize, at: usize, u: u64, end: u64) -> u64
+    requires { ⌜ Shaped (now e) (p + 1) × (0 < u) × (u < end) × (end ≤ mostTime) × (at + keptSize + entriesIn (now e) p ≤ length (now steps)) × (length (now steps) ≤ 16777216) ⌝ }
+    requires { ⌜ KeptAt (now e) end (u - 1) (now steps) p at ⌝ }
+    ensures { λ r. ⌜ KeptAt (now (e .entry)) end u (now (steps .exit)) p at × NodeStep (now (e .entry)) p u end r ⌝ }
+    ensures { λ r. ⌜ Inside at (at + keptSize + entriesIn (now (e .entry)) p) (now (steps .entry)) (now (steps .exit)) ⌝ }
+{
+    let next = steps[at + 1];
+    if next != u {
+        return next;
+    }
+    step_node(e, steps, p, at, u, end)
 }

@@ -17,13 +17,13 @@ zeros (suc n) zero = refl
 zeros (suc n) (suc k) = zeros n k
 
 sizes : (n w : ℕ) → n ≤ mostFlows → mostNodes ≡ w →
-    (n * n * (w + 3) ≤ 2816) × (n * w * 3 ≤ 384) × (n * w ≤ 128) × (1 + w * (3 + 5 * n) ≤ 665) × (w * (1 + n) ≤ 136)
-sizes n w h e = subst (λ v. (n * n * (v + 3) ≤ 2816) × (n * v * 3 ≤ 384) × (n * v ≤ 128) × (1 + v * (3 + 5 * n) ≤ 665) × (v * (1 + n) ≤ 136)) e
+    (n * n * (w + 3) ≤ 2816) × (n * w * 3 ≤ 384) × (n * w ≤ 128) × (1 + w * (3 + 5 * n) ≤ 665) × (w * (3 + n) ≤ 152)
+sizes n w h e = subst (λ v. (n * n * (v + 3) ≤ 2816) × (n * v * 3 ≤ 384) × (n * v ≤ 128) × (1 + v * (3 + 5 * n) ≤ 665) × (v * (3 + n) ≤ 152)) e
     (omega (arith, mul-le-mul {n₁ = n} {m₁ = n} {n₂ = 16} {m₂ = 16} h h), omega arith, omega arith, omega arith, omega arith)
 
 pub room-enough : (net : List ℕ) → countIn net ≤ mostFlows → roomIn net ≡ mostNodes → Whole net →
     Whole net × (countIn net * countIn net * pairSize net ≤ 2816) × (countIn net * roomIn net * 3 ≤ 384) ×
-    Room net (replicate 16 0) (replicate 128 0) (replicate 16 0) (replicate 665 0) (replicate 10 0) (replicate 136 0) (replicate 8 0)
+    Room net (replicate 16 0) (replicate 128 0) (replicate 16 0) (replicate 665 0) (replicate 10 0) (replicate 152 0) (replicate 8 0)
 room-enough net few room whole =
     let s = sizes (countIn net) (roomIn net) few (sym room) in (
       whole,

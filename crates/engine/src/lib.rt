@@ -36,7 +36,7 @@ const SHEET: usize = 665;
 
 const SLOTS: usize = 10;
 
-const STEPS: usize = 136;
+const STEPS: usize = 152;
 
 // Accepted with the figures of each flow in the row's order; or the refusal, and figures of 0.
 pub struct Verdict {

@@ -15,14 +15,14 @@ use Rattle.least.specs.Count.{pick}
 use Rattle.least.specs.Lists.{values}
 use Rattle.least.specs.Fold.{anyOf}
 use Rattle.least.proofs.Count.{le-or-lt}
-use Rattle.least.proofs.Fold.{sum-to-bound}
 use Rattle.least.proofs.Lists.{drop-next, drop-past, length-to, at-to}
 use Rattle.rules.specs.Net.{Flow}
 use Rattle.rules.specs.Formula.{Role, Own, Higher, Equal, Lower, role, higherOrEqual, crosses}
 use Rattle.nets.specs.Nets.{countIn, roomIn, lengthIn, flowIn, flowsIn, noFlow}
 use Rattle.crossings.specs.Pairs.{sideNumber}
 use Rattle.blocks.specs.Sheet.{mostTime, entriesIn, Small}
-use Rattle.starts.specs.Kept.{stepsAt}
+use Rattle.blocks.specs.Kept.{keptSize}
+use Rattle.starts.specs.Kept.{Strided}
 use Rattle.starts.specs.Runs.{LowTo}
 use Rattle.starts.proofs.Nodes.{set-cases}
 use Rattle.settle.specs.Reading.{equal, meetsEqual, readsOf, readsOwn, readsFlow}
@@ -246,13 +246,13 @@ module _ {net busies replies marks sheet slots steps best : List ℕ} (room : Ro
   pub sheet-fits : (a : ℕ) → 1 + lengthIn net a * (3 + 5 * countIn net) ≤ length sheet
   sheet-fits a = omega (arith, room .sheet-long, mul-le-mul-right {m = lengthIn net a} {n = roomIn net} (3 + 5 * countIn net) (omega arith))
 
-  pub steps-fit : (e : List ℕ) (m : ℕ) → m ≤ roomIn net → ((p : ℕ) → p < m → entriesIn e p ≤ countIn net) → stepsAt e m ≤ length steps
-  steps-fit e m h few = omega (
-    arith,
-    room .steps-long,
-    mul-le-mul-right {m = m} {n = roomIn net} (1 + countIn net) h,
-    sum-to-bound m (λ p. 1 + entriesIn e p) (1 + countIn net) (λ p q. omega (arith, few p q)),
-  )
+  pub steps-fit : (e : List ℕ) (m n : ℕ) → m ≤ roomIn net → n ≡ countIn net → ((p : ℕ) → p < m → entriesIn e p ≤ countIn net) →
+      Strided e (keptSize + n) m steps
+  steps-fit e m n h is few = record {
+    each = λ p q. omega (arith, few p q);
+    long = rw is (omega (arith, room .steps-long, mul-le-mul-right {m = m} {n = roomIn net} (keptSize + countIn net) h));
+    short = room .steps-short;
+  }
 
   pub room-kept : {replies′ marks′ sheet′ slots′ steps′ best′ : List ℕ} → length replies′ ≡ length replies → length marks′ ≡ length marks →
       length sheet′ ≡ length sheet → length slots′ ≡ length slots → length steps′ ≡ length steps → length best′ ≡ length best → Small sheet′ → Small slots′ →

@@ -59,7 +59,7 @@ pub record Room (net busies replies marks sheet slots steps best : List ℕ) : T
   pub sheet-small : Small sheet
   pub slots-long : roomIn net + 2 ≤ length slots
   pub slots-small : Small slots
-  pub steps-long : roomIn net * (1 + countIn net) ≤ length steps
+  pub steps-long : roomIn net * (3 + countIn net) ≤ length steps
   pub steps-short : length steps ≤ 16777216
   pub best-long : roomIn net ≤ length best
 

@@ -175,7 +175,8 @@ fn turn(
     sheets::write(net, pairs, ways, replies, sheet, a);
     let m = nets::hops(net, a);
     let end = busies[a];
-    if starts::responses(sheet, slots, steps, best, m, end) {
+    let stride = blocks::KEPT + nets::count(net);
+    if starts::responses(sheet, slots, steps, best, m, stride, end) {
         return true;
     }
     if raise(replies, best, a * nets::room(net), m) == 0 {

@@ -14,10 +14,10 @@ use Rattle.least.proofs.Count.{le-or-lt}
 use Rattle.least.proofs.Fold.{sum-to-lt, sum-to-ext}
 use Rattle.least.proofs.Fixed.{least-ext}
 use Rattle.least.proofs.Steps.{step-none, step-first, step-more, best-still}
-use Rattle.blocks.specs.Sheet.{hereSlot, instantSlot, added, entriesIn, entryAt, termOf, instantTerm, lookTerm, instantSum, seen, sums, Fit}
-use Rattle.blocks.specs.Steps.{EntryStep, NodeStep}
+use Rattle.blocks.specs.Sheet.{hereSlot, instantSlot, added, entriesIn, entryAt, termOf, lookTerm, instantSum, seen, sums, Fit}
+use Rattle.blocks.specs.Steps.{NodeStep}
 use Rattle.blocks.proofs.Looks.{sheet-split}
-use Rattle.blocks.proofs.Steps.{term-rises, sum-rises}
+use Rattle.blocks.proofs.Steps.{sum-rises}
 use Rattle.starts.specs.Runs.{StartsOf, prior}
 use Rattle.starts.specs.Steps.{SheetStep}
 use Rattle.starts.proofs.Sums.{start-found}
@@ -37,19 +37,15 @@ module _ (e : List ℕ) (m u end r : ℕ) (s : SheetStep e m u end r) (p : ℕ) 
   up-together : (v : ℕ) → u ≤ v → instantSum e p u < instantSum e p v → sumTo m (λ p. instantSum e p u) < sumTo m (λ p. instantSum e p v)
   up-together v h q = sum-to-lt m p (λ p. instantSum e p u) (λ p. instantSum e p v) on (λ j z. sum-rises e u v h j) q
 
-  pub node-still : (v : ℕ) → u ≤ v → v < r → instantSum e p v ≡ instantSum e p u
+  node-still : (v : ℕ) → u ≤ v → v < r → instantSum e p v ≡ instantSum e p u
   node-still v from to = elim (le-or-lt (instantSum e p v) (instantSum e p u)) [
     | inl h ↦ omega (arith, sum-rises e u v from p)
     | inr h ↦ absurd (omega (arith, up-together v from h, s .still v from to))
   ]
 
-  -- no entry steps before the sheet does
-  pub entry-late : (q t : ℕ) → q < entriesIn e p → EntryStep e (entryAt e p q) u end t → r ≤ t
-  unfolding instantSum
-  entry-late q t h step = step-first (λ v from up. up-together v from (omega (
-    arith,
-    sum-to-lt (entriesIn e p) q (λ q. instantTerm e u (entryAt e p q)) (λ q. instantTerm e v (entryAt e p q)) h (λ j z. term-rises e u v from (entryAt e p j)) up,
-  ))) s step
+  -- no node steps before the sheet does
+  pub node-late : (t : ℕ) → NodeStep e p u end t → r ≤ t
+  node-late t step = step-first up-together s step
 
 -- a count that looks elsewhere does not see the instant
 look-still : (e : List ℕ) (x : ℕ → ℕ) (w u v k : ℕ) → lookTerm e (seen x w v) k ≡ lookTerm e (seen x w u) k

@@ -9,10 +9,11 @@ ghost use lib.ListN.{length};
 ghost use Rattle.least.specs.Fixed.{Under};
 ghost use Rattle.least.specs.Lists.{values};
 ghost use Rattle.blocks.specs.Sheet.{mostTime, instantSlot, nodeSlot, instantSum, sums, Small, Shaped};
+ghost use Rattle.blocks.specs.Kept.{Looking};
 ghost use Rattle.starts.specs.Begins.{BeginIs, BeginFits, Kept};
 ghost use Rattle.starts.specs.Runs.{LowTo, Behind, InstantIs, ResponsesAre};
 ghost use Rattle.starts.specs.Steps.{SheetStep};
-ghost use Rattle.starts.specs.Kept.{stepsAt, KeptTo, SumsTo};
+ghost use Rattle.starts.specs.Kept.{Strided, KeptTo, SumsTo};
 
 // The horizon H.
 pub const HORIZON: u64 = 65535;
@@ -24,8 +25,8 @@ enum Begin {
 }
 
 // The starting time at node p, upwards from a value that is not above it.
-fn start_at(e: &[u64], v: &mut [u64], p: usize, kept: u64, from: u64) -> Begin
-    requires { ⌜ Shaped (now e) (p + 1) × Small (now v) × (nodeSlot p < length (now v)) × (values (now v) instantSlot ≤ mostTime) × (kept ≡ instantSum (now e) p (values (now v) instantSlot)) × (from < 16777216) ⌝ }
+fn start_at(e: &[u64], v: &mut [u64], p: usize, kept: u64, looks: u64, from: u64) -> Begin
+    requires { ⌜ Shaped (now e) (p + 1) × Small (now v) × (nodeSlot p < length (now v)) × (values (now v) instantSlot ≤ mostTime) × (kept ≡ instantSum (now e) p (values (now v) instantSlot)) × Looking (now e) p looks × (from < 16777216) ⌝ }
     ensures { λ r. ⌜ (Under (sums (now (e .entry)) (values (now (v .entry)) instantSlot) p (λ q. values (now (v .entry)) (nodeSlot q))) from → BeginIs (now (e .entry)) (values (now (v .entry)) instantSlot) p (λ q. values (now (v .entry)) (nodeSlot q)) r) ⌝ }
     ensures { λ r. ⌜ BeginFits (now (e .entry)) (values (now (v .entry)) instantSlot) p r ⌝ }
     ensures { λ r. ⌜ Kept (now (v .entry)) (now (v .exit)) ⌝ }
@@ -36,7 +37,7 @@ fn start_at(e: &[u64], v: &mut [u64], p: usize, kept: u64, from: u64) -> Begin
     let mut w = from;
     while w + add <= last {
         v[HERE] = w;
-        let sum = blocks::sum_at(e, v, p, kept);
+        let sum = blocks::sum_at(e, v, p, kept, looks);
         if sum <= w {
             return Begin::At(w);
         }
@@ -47,9 +48,17 @@ fn start_at(e: &[u64], v: &mut [u64], p: usize, kept: u64, from: u64) -> Begin
 
 // The instant u at the first m nodes, from the kept sums, and from the starting times and the bounds up to the instant before; whether one passes
 // the horizon.
-fn instant(e: &[u64], slots: &mut [u64], steps: &[u64], best: &mut [u64], m: usize, u: u64) -> bool
+fn instant(
+    e: &[u64],
+    slots: &mut [u64],
+    steps: &[u64],
+    best: &mut [u64],
+    m: usize,
+    stride: usize,
+    u: u64,
+) -> bool
     requires { ⌜ Shaped (now e) m × (u ≤ mostTime) × Small (now slots) × (nodeSlot m ≤ length (now slots)) × (m ≤ length (now best)) × LowTo m (now best) ⌝ }
-    requires { ⌜ (stepsAt (now e) m ≤ length (now steps)) × (length (now steps) ≤ 16777216) × SumsTo (now e) u (now steps) m ⌝ }
+    requires { ⌜ Strided (now e) stride m (now steps) × SumsTo (now e) stride u (now steps) m ⌝ }
     ensures { λ r. ⌜ InstantIs (now (e .entry)) m u (now (slots .entry)) (now (best .entry)) r (now (slots .exit)) (now (best .exit)) ⌝ }
     ensures { λ r. ⌜ Small (now (slots .exit)) × (length (now (slots .exit)) ≡ length (now (slots .entry))) ⌝ }
     ensures { λ r. ⌜ LowTo m (now (best .exit)) × Behind m (now (best .entry)) (now (best .exit)) ⌝ }
@@ -59,7 +68,7 @@ fn instant(e: &[u64], slots: &mut [u64], steps: &[u64], best: &mut [u64], m: usi
     let mut p: usize = 0;
     while p < m {
         let from = slots[p + NODE];
-        let Begin::At(w) = start_at(e, slots, p, steps[at], from) else {
+        let Begin::At(w) = start_at(e, slots, p, steps[at], steps[at + 2], from) else {
             return true;
         };
         slots[p + NODE] = w;
@@ -67,16 +76,16 @@ fn instant(e: &[u64], slots: &mut [u64], steps: &[u64], best: &mut [u64], m: usi
         let bound = least::less(w + add, u);
         let so_far = best[p];
         best[p] = least::greater(so_far, bound);
-        at += 1 + blocks::entries_in(e, p);
+        at += stride;
         p += 1;
     }
     false
 }
 
 // The first m nodes one behind the other. The first step of all is the next of the sheet: a starting time carries a step on to the nodes behind it.
-fn begin_nodes(e: &[u64], steps: &mut [u64], m: usize, u: u64, end: u64) -> u64
-    requires { ⌜ Shaped (now e) m × (u < end) × (end ≤ mostTime) × (stepsAt (now e) m ≤ length (now steps)) × (length (now steps) ≤ 16777216) ⌝ }
-    ensures { λ r. ⌜ KeptTo (now (e .entry)) end u (now (steps .exit)) m × SheetStep (now (e .entry)) m u end r ⌝ }
+fn begin_nodes(e: &[u64], steps: &mut [u64], m: usize, stride: usize, u: u64, end: u64) -> u64
+    requires { ⌜ Shaped (now e) m × (u < end) × (end ≤ mostTime) × Strided (now e) stride m (now steps) ⌝ }
+    ensures { λ r. ⌜ KeptTo (now (e .entry)) stride end u (now (steps .exit)) m × SheetStep (now (e .entry)) m u end r ⌝ }
     ensures { λ r. ⌜ length (now (steps .exit)) ≡ length (now (steps .entry)) ⌝ }
 {
     let mut next = end;
@@ -85,16 +94,16 @@ fn begin_nodes(e: &[u64], steps: &mut [u64], m: usize, u: u64, end: u64) -> u64
     while p < m {
         let step = blocks::begin_node(e, steps, p, at, u, end);
         next = least::lesser(next, step);
-        at += 1 + blocks::entries_in(e, p);
+        at += stride;
         p += 1;
     }
     next
 }
 
-fn advance_nodes(e: &[u64], steps: &mut [u64], m: usize, u: u64, end: u64) -> u64
-    requires { ⌜ Shaped (now e) m × (0 < u) × (u < end) × (end ≤ mostTime) × (stepsAt (now e) m ≤ length (now steps)) × (length (now steps) ≤ 16777216) ⌝ }
-    requires { ⌜ KeptTo (now e) end (u - 1) (now steps) m ⌝ }
-    ensures { λ r. ⌜ KeptTo (now (e .entry)) end u (now (steps .exit)) m × SheetStep (now (e .entry)) m u end r ⌝ }
+fn advance_nodes(e: &[u64], steps: &mut [u64], m: usize, stride: usize, u: u64, end: u64) -> u64
+    requires { ⌜ Shaped (now e) m × (0 < u) × (u < end) × (end ≤ mostTime) × Strided (now e) stride m (now steps) ⌝ }
+    requires { ⌜ KeptTo (now e) stride end (u - 1) (now steps) m ⌝ }
+    ensures { λ r. ⌜ KeptTo (now (e .entry)) stride end u (now (steps .exit)) m × SheetStep (now (e .entry)) m u end r ⌝ }
     ensures { λ r. ⌜ length (now (steps .exit)) ≡ length (now (steps .entry)) ⌝ }
 {
     let mut next = end;
@@ -103,23 +112,23 @@ fn advance_nodes(e: &[u64], steps: &mut [u64], m: usize, u: u64, end: u64) -> u6
     while p < m {
         let step = blocks::advance_node(e, steps, p, at, u, end);
         next = least::lesser(next, step);
-        at += 1 + blocks::entries_in(e, p);
+        at += stride;
         p += 1;
     }
     next
 }
 
 // At the first instant begun, at each later one taken on.
-fn keep(e: &[u64], steps: &mut [u64], m: usize, u: u64, end: u64) -> u64
-    requires { ⌜ Shaped (now e) m × (u < end) × (end ≤ mostTime) × (stepsAt (now e) m ≤ length (now steps)) × (length (now steps) ≤ 16777216) ⌝ }
-    requires { ⌜ (0 < u → KeptTo (now e) end (u - 1) (now steps) m) ⌝ }
-    ensures { λ r. ⌜ KeptTo (now (e .entry)) end u (now (steps .exit)) m × SheetStep (now (e .entry)) m u end r ⌝ }
+fn keep(e: &[u64], steps: &mut [u64], m: usize, stride: usize, u: u64, end: u64) -> u64
+    requires { ⌜ Shaped (now e) m × (u < end) × (end ≤ mostTime) × Strided (now e) stride m (now steps) ⌝ }
+    requires { ⌜ (0 < u → KeptTo (now e) stride end (u - 1) (now steps) m) ⌝ }
+    ensures { λ r. ⌜ KeptTo (now (e .entry)) stride end u (now (steps .exit)) m × SheetStep (now (e .entry)) m u end r ⌝ }
     ensures { λ r. ⌜ length (now (steps .exit)) ≡ length (now (steps .entry)) ⌝ }
 {
     if u == 0 {
-        return begin_nodes(e, steps, m, u, end);
+        return begin_nodes(e, steps, m, stride, u, end);
     }
-    advance_nodes(e, steps, m, u, end)
+    advance_nodes(e, steps, m, stride, u, end)
 }
 
 // Zeros in the first n places.
@@ -143,10 +152,11 @@ pub fn responses(
     steps: &mut [u64],
     best: &mut [u64],
     m: usize,
+    stride: usize,
     end: u64,
 ) -> bool
     requires { ⌜ Shaped (now e) m × (end ≤ mostTime) × Small (now slots) × (nodeSlot m ≤ length (now slots)) × (m ≤ length (now best)) ⌝ }
-    requires { ⌜ (stepsAt (now e) m ≤ length (now steps)) × (length (now steps) ≤ 16777216) ⌝ }
+    requires { ⌜ Strided (now e) stride m (now steps) ⌝ }
     ensures { λ r. ⌜ ResponsesAre (now (e .entry)) m end r (now (best .exit)) ⌝ }
     ensures { λ r. ⌜ Behind m (now (best .entry)) (now (best .exit)) ⌝ }
     ensures { λ r. ⌜ Small (now (slots .exit)) × (length (now (slots .exit)) ≡ length (now (slots .entry))) ⌝ }
@@ -156,8 +166,8 @@ pub fn responses(
     clear(best, m);
     let mut u: u64 = 0;
     while u < end {
-        let next = keep(e, steps, m, u, end);
-        if instant(e, slots, steps, best, m, u) {
+        let next = keep(e, steps, m, stride, u, end);
+        if instant(e, slots, steps, best, m, stride, u) {
             clear(best, m);
             return true;
         }

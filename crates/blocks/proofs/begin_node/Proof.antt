@@ -1,11 +1,12 @@
 -- `blocks::begin_node` meets its contract.
 use lib.Seq.{getD-set-same}
 use lib.ListN.{set, length-set}
-use mathlib.Core.Path.{_≡_, ap}
+use mathlib.Core.Path.{_≡_, sym, ap, subst}
 use Prim.Native.Nat.{_+_, _-_, _*_, _≤_, _<_}
 use Rattle.least.specs.Lists.{values}
 use Rattle.blocks.specs.Sheet.{headSize, entrySize, blockAt, entriesIn}
-use Rattle.blocks.proofs.Kept.{Entered, entered-none, entered-more, entered-all, inside-set}
+use Rattle.blocks.specs.Kept.{keptSize, Looking}
+use Rattle.blocks.proofs.Kept.{inside-set, headed, Entered, entered-none, entered-more, entered-all}
 use Rattle.blocks.proofs.Terms.{instantTo, begun-none, begun-more, begun-all}
 use borrow.Author.Needs.{needs}
 use native.Mathlib.Omega.{arith}
@@ -17,6 +18,7 @@ use Rattle.least.proofs.lesser.Reads as lesser-reads
 use Rattle.blocks.proofs.block_at.Reads as block-at-reads
 use Rattle.blocks.proofs.entry_step.Reads as entry-step-reads
 use Rattle.blocks.proofs.instant_term.Reads as instant-term-reads
+use Rattle.blocks.proofs.looks_in.Reads as looks-in-reads
 
 abbrev Inv-loop : tie.InvT-loop
 Inv-loop e steps₀ p at u end block n sum₀ next₀ q₀ steps sum next q = (q ≤ n) × (block ≡ blockAt e p) × (n ≡ entriesIn e p) × (sum ≡ values e (blockAt e p) + instantTo e p u q) × (sum < 16777216 + 562949953421312 * q) × Entered e end u p at steps₀ steps next q
@@ -99,7 +101,7 @@ loop-again c =
     let s = c .before .before .entry-step in
     let t = c .before .instant-term in
     let place = ap (λ b. b + headSize + l .q * entrySize) (l .inv .1) in
-    (omega arith, l .inv .1, l .inv .2, begun-more (a .e .now) (a .p) (a .u) (l .q) (l .sum) (t .result) _ place (l .inv .3) (t .ensures .0), omega arith, entered-more (a .e .now) (a .end) (a .u) (a .p) (a .at) (a .steps .now) (l .steps) (l .next) (l .q) (l .inv .5) (set (l .steps) (a .at + 1 + l .q) (s .result)) (s .result) (c .lesser .result) _ place (inside-set (l .steps) (a .at + 1 + l .q) (s .result)) (getD-set-same (l .steps) (a .at + 1 + l .q) (s .result) 0 (omega (arith, l .inv .5 .inside .long))) (s .ensures) (c .lesser .ensures))
+    (omega arith, l .inv .1, l .inv .2, begun-more (a .e .now) (a .p) (a .u) (l .q) (l .sum) (t .result) _ place (l .inv .3) (t .ensures .0), omega arith, entered-more (a .e .now) (a .end) (a .u) (a .p) (a .at) (a .steps .now) (l .steps) (l .next) (l .q) (l .inv .5) (set (l .steps) (a .at + keptSize + l .q) (s .result)) (s .result) (c .lesser .result) _ place (inside-set (l .steps) (a .at + keptSize + l .q) (s .result)) (getD-set-same (l .steps) (a .at + keptSize + l .q) (s .result) 0 (omega (arith, l .inv .5 .inside .long))) (s .ensures) (c .lesser .ensures))
 
 mul-steps-2 : tie.Need-mul-steps-2 Inv-loop μ-loop
 mul-steps-2 c = search needs
@@ -107,15 +109,39 @@ mul-steps-2 c = search needs
 slice-write-steps-2 : tie.Need-slice-write-steps-2 Inv-loop μ-loop
 slice-write-steps-2 c = search needs
 
+add-steps-3 : tie.Need-add-steps-3 Inv-loop μ-loop
+add-steps-3 c = search needs
+
+mul-steps-3 : tie.Need-mul-steps-3 Inv-loop μ-loop
+mul-steps-3 c = search needs
+
+slice-write-steps-3 : tie.Need-slice-write-steps-3 Inv-loop μ-loop
+slice-write-steps-3 c = let l = c .before .loop in simp length-set (omega (arith, l .inv .5 .inside .long))
+
+looks-in-requires : tie.Need-looks-in-requires Inv-loop μ-loop
+looks-in-requires c κs = search needs
+
+add-steps-4 : tie.Need-add-steps-4 Inv-loop μ-loop
+add-steps-4 c = search needs
+
+mul-steps-4 : tie.Need-mul-steps-4 Inv-loop μ-loop
+mul-steps-4 c = search needs
+
+slice-write-steps-4 : tie.Need-slice-write-steps-4 Inv-loop μ-loop
+slice-write-steps-4 c = let l = c .before .before .loop in simp length-set (omega (arith, l .inv .5 .inside .long))
+
 same-length : tie.Need-same-length Inv-loop μ-loop
-same-length c = let l = c .before .loop in simp length-set (l .inv .5 .inside .long)
+same-length c = let l = c .before .before .loop in simp length-set (l .inv .5 .inside .long)
 
 returns : tie.Need-returns Inv-loop μ-loop
 returns c =
-    let a = c .before .before .before .before .before .before .before .args in
-    let l = c .before .loop in
-    entered-all (a .e .now) (a .end) (a .u) (a .p) (a .at) (a .steps .now) (l .steps) (l .next) (l .q) (l .inv .5) (l .sum) (omega arith)
-    (begun-all (a .e .now) (a .p) (a .u) (l .q) (l .sum) (l .inv .3) (omega arith)) (omega arith)
+    let a = c .before .before .before .before .before .before .before .before .args in
+    let l = c .before .before .loop in
+    let n = c .looks-in in
+    let steps = headed (l .steps) (a .at) (l .sum) (l .next) in
+    entered-all (a .e .now) (a .end) (a .u) (a .p) (a .at) (a .steps .now) (l .steps) (l .next) (l .q) (l .inv .5) (l .sum) _ (inside-set steps (a .at + 2) (n .result)) (omega arith)
+    (begun-all (a .e .now) (a .p) (a .u) (l .q) (l .sum) (l .inv .3) (omega arith))
+    (subst (Looking (a .e .now) (a .p)) (sym (getD-set-same steps (a .at + 2) (n .result) 0 (simp length-set (omega (arith, l .inv .5 .inside .long))))) (n .ensures)) (omega arith)
 
 pub begin-node-spec : {M : Type 1} → statement M
 begin-node-spec =
@@ -146,5 +172,12 @@ begin-node-spec =
     loop-again
     mul-steps-2
     slice-write-steps-2
+    add-steps-3
+    mul-steps-3
+    slice-write-steps-3
+    looks-in-requires
+    add-steps-4
+    mul-steps-4
+    slice-write-steps-4
     same-length
     returns)

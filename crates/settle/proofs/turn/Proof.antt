@@ -15,29 +15,29 @@ use Rattle.settle.proofs.turn.Statement.{statement}
 use Rattle.settle.proofs.turn.Tie as tie
 
 ran : (c : tie.After-responses) →
-    let x = c .before .before .before .before .before .before .before .before .before .before .before .before .before .before .before .before .before .before .before .before .before .before .args in
+    let x = c .before .before .before .before .before .before .before .before .before .before .before .before .before .before .before .before .before .before .before .before .before .before .before .args in
     let r = c .responses in
-    Ran (x .net .now) (x .busies .now) (x .replies .now) (x .marks .now) (x .a) (c .before .before .before .before .before .before .before .before .before .write .last .1 .1 .1 .1 .0) (c .before .before .before .before .before .before .hops .result) (r .result) (r .last .1 .1 .1 .0)
+    Ran (x .net .now) (x .busies .now) (x .replies .now) (x .marks .now) (x .a) (c .before .before .before .before .before .before .before .before .before .before .write .last .1 .1 .1 .1 .0) (c .before .before .before .before .before .before .before .hops .result) (r .result) (r .last .1 .1 .1 .0)
 ran c =
-    let s = c .before .before .before .before .before .before .before .before .before .before .before .before .before .before .before .before .before .before .before .before .before .before in
+    let s = c .before .before .before .before .before .before .before .before .before .before .before .before .before .before .before .before .before .before .before .before .before .before .before in
     record {
       on = s .pre .0 .one;
       inside = omega (arith, s .pre .0 .one, s .pre .3 .marks-long);
-      written = c .before .before .before .before .before .before .before .before .before .write .ensures .0;
-      long = c .before .before .before .before .before .before .hops .ensures .0;
+      written = c .before .before .before .before .before .before .before .before .before .before .write .ensures .0;
+      long = c .before .before .before .before .before .before .before .hops .ensures .0;
       run = c .responses .ensures .0;
     }
 
-kept-room : (c : tie.After-responses) {replies′ marks′ : List ℕ} → length replies′ ≡ length (c .before .before .before .before .before .before .before .before .before .before .before .before .before .before .before .before .before .before .before .before .before .before .args .replies .now) → length marks′ ≡ length (c .before .before .before .before .before .before .before .before .before .before .before .before .before .before .before .before .before .before .before .before .before .before .args .marks .now) →
-    let x = c .before .before .before .before .before .before .before .before .before .before .before .before .before .before .before .before .before .before .before .before .before .before .args in
-    Room (x .net .now) (x .busies .now) replies′ marks′ (c .before .before .before .before .before .before .before .before .before .write .last .1 .1 .1 .1 .0) (c .responses .last .1 .0) (c .responses .last .1 .1 .0) (c .responses .last .1 .1 .1 .0)
+kept-room : (c : tie.After-responses) {replies′ marks′ : List ℕ} → length replies′ ≡ length (c .before .before .before .before .before .before .before .before .before .before .before .before .before .before .before .before .before .before .before .before .before .before .before .args .replies .now) → length marks′ ≡ length (c .before .before .before .before .before .before .before .before .before .before .before .before .before .before .before .before .before .before .before .before .before .before .before .args .marks .now) →
+    let x = c .before .before .before .before .before .before .before .before .before .before .before .before .before .before .before .before .before .before .before .before .before .before .before .args in
+    Room (x .net .now) (x .busies .now) replies′ marks′ (c .before .before .before .before .before .before .before .before .before .before .write .last .1 .1 .1 .1 .0) (c .responses .last .1 .0) (c .responses .last .1 .1 .0) (c .responses .last .1 .1 .1 .0)
 kept-room c l k =
-    let w = c .before .before .before .before .before .before .before .before .before .write .ensures in
+    let w = c .before .before .before .before .before .before .before .before .before .before .write .ensures in
     let r = c .responses .ensures in
-    room-kept (c .before .before .before .before .before .before .before .before .before .before .before .before .before .before .before .before .before .before .before .before .before .before .pre .3) l k (w .1 .1 .0) (r .1 .1 .0 .1) (r .1 .1 .1) (r .1 .0 .long) (w .1 .0 .small) (r .1 .1 .0 .0)
+    room-kept (c .before .before .before .before .before .before .before .before .before .before .before .before .before .before .before .before .before .before .before .before .before .before .before .pre .3) l k (w .1 .1 .0) (r .1 .1 .0 .1) (r .1 .1 .1) (r .1 .0 .long) (w .1 .0 .small) (r .1 .1 .0 .0)
 
-first-low : (c : tie.After-room) → c .before .before .before .before .before .before .before .before .before .before .before .before .before .before .before .before .before .before .before .before .before .before .before .before .before .before .before .before .before .before .before .before .args .a * c .room .result ≤ 4000
-first-low c = omega (arith, mul-le-mul {n₁ = c .before .before .before .before .before .before .before .before .before .before .before .before .before .before .before .before .before .before .before .before .before .before .before .before .before .before .before .before .before .before .before .before .args .a} {m₁ = c .room .result} {n₂ = 63} {m₂ = 63} (omega (arith, c .before .before .before .before .before .before .before .before .before .before .before .before .before .before .before .before .before .before .before .before .before .before .before .before .before .before .before .before .before .before .before .before .pre .0 .one)) (c .room .ensures .1))
+first-low : (c : tie.After-room) → c .before .before .before .before .before .before .before .before .before .before .before .before .before .before .before .before .before .before .before .before .before .before .before .before .before .before .before .before .before .before .before .before .before .args .a * c .room .result ≤ 4000
+first-low c = omega (arith, mul-le-mul {n₁ = c .before .before .before .before .before .before .before .before .before .before .before .before .before .before .before .before .before .before .before .before .before .before .before .before .before .before .before .before .before .before .before .before .before .args .a} {m₁ = c .room .result} {n₂ = 63} {m₂ = 63} (omega (arith, c .before .before .before .before .before .before .before .before .before .before .before .before .before .before .before .before .before .before .before .before .before .before .before .before .before .before .before .before .before .before .before .before .before .pre .0 .one)) (c .room .ensures .1))
 
 mul-marks : tie.Need-mul-marks
 mul-marks c = search needs
@@ -59,12 +59,19 @@ mul-end c = search needs
 shared-slice-read-end : tie.Need-shared-slice-read-end
 shared-slice-read-end c = search needs
 
+count-requires : tie.Need-count-requires
+count-requires c κs = search needs
+
+add-stride : tie.Need-add-stride
+add-stride c = search needs
+
 responses-requires : tie.Need-responses-requires
 responses-requires c κs =
-    let s = c .before .before .before .before .before .before .before .before .before .before .before .before .before .before .before .before .before .before .before .before .before in
-    let w = c .before .before .before .before .before .before .before .before .write in
-    let h = c .before .before .before .before .before .hops in
-    ((subst (Shaped (w .last .1 .1 .1 .1 .0)) (sym (h .ensures .0)) (w .ensures .1 .0), s .pre .2 (s .args .a) (s .pre .0 .one), s .pre .3 .slots-small, omega (arith, h .ensures .1 .0, s .pre .3 .slots-long), omega (arith, h .ensures .1 .0, s .pre .3 .best-long)), (steps-fit (s .pre .3) (w .last .1 .1 .1 .1 .0) (h .result) (h .ensures .1 .0) (λ p q. w .ensures .1 .1 .1 p (omega (arith, h .ensures .0))), s .pre .3 .steps-short))
+    let s = c .before .before .before .before .before .before .before .before .before .before .before .before .before .before .before .before .before .before .before .before .before .before in
+    let w = c .before .before .before .before .before .before .before .before .before .write in
+    let h = c .before .before .before .before .before .before .hops in
+    let n = c .before .before .before .before .count in
+    ((subst (Shaped (w .last .1 .1 .1 .1 .0)) (sym (h .ensures .0)) (w .ensures .1 .0), s .pre .2 (s .args .a) (s .pre .0 .one), s .pre .3 .slots-small, omega (arith, h .ensures .1 .0, s .pre .3 .slots-long), omega (arith, h .ensures .1 .0, s .pre .3 .best-long)), steps-fit (s .pre .3) (w .last .1 .1 .1 .1 .0) (h .result) (n .result) (h .ensures .1 .0) (n .ensures .0) (λ p q. w .ensures .1 .1 .1 p (omega (arith, h .ensures .0))))
 
 same-length : tie.Need-same-length
 same-length c = search needs
@@ -86,21 +93,21 @@ same-length-6 c = search needs
 
 returns : tie.Need-returns
 returns c =
-    let s = c .before .before .before .before .before .before .before .before .before .before .before .before .before .before .before .before .before .before .before .before .before .before .before .before .before .before .before .before .before in
+    let s = c .before .before .before .before .before .before .before .before .before .before .before .before .before .before .before .before .before .before .before .before .before .before .before .before .before .before .before .before .before .before in
     let x = s .args in
     (turn-past (ran (c .before .before .before .before .before .before .before)) (c .if1 .taken), (kept-room (c .before .before .before .before .before .before .before) refl (length-set (x .marks .now) (x .a) 0), unmarked-fair (x .net .now) (x .replies .now) (x .marks .now) (x .a) (ran (c .before .before .before .before .before .before .before) .inside) (s .pre .4)))
 
 room-requires : tie.Need-room-requires
-room-requires c κs = c .before .before .before .before .before .before .before .before .before .before .before .before .before .before .before .before .before .before .before .before .before .before .before .before .before .before .before .before .before .before .before .pre .0 .all .whole
+room-requires c κs = c .before .before .before .before .before .before .before .before .before .before .before .before .before .before .before .before .before .before .before .before .before .before .before .before .before .before .before .before .before .before .before .before .pre .0 .all .whole
 
 mul-raise : tie.Need-mul-raise
 mul-raise c = record { fits = omega (arith, first-low c) }
 
 raise-requires : tie.Need-raise-requires
 raise-requires c κs =
-    let s = c .before .before .before .before .before .before .before .before .before .before .before .before .before .before .before .before .before .before .before .before .before .before .before .before .before .before .before .before .before .before .before .before in
+    let s = c .before .before .before .before .before .before .before .before .before .before .before .before .before .before .before .before .before .before .before .before .before .before .before .before .before .before .before .before .before .before .before .before .before in
     let x = s .args in
-    let h = c .before .before .before .before .before .before .before .before .before .before .before .before .before .before .before .before .hops in
+    let h = c .before .before .before .before .before .before .before .before .before .before .before .before .before .before .before .before .before .hops in
     let r = c .before .before .before .before .before .before .before .before .before .before .responses in
     (first-low c, h .ensures .1 .1, omega (arith, ap (λ k. x .a * k) (c .room .ensures .0), whole (roomIn (x .net .now)) (h .result) (x .a) (countIn (x .net .now)) (h .ensures .1 .0) (s .pre .0 .one), s .pre .3 .replies-long), omega (arith, h .ensures .1 .0, r .ensures .1 .0 .long, s .pre .3 .best-long), s .pre .4 .low, r .ensures .0 .low)
 
@@ -124,7 +131,7 @@ same-length-12 c = search needs
 
 returns-2 : tie.Need-returns-2
 returns-2 c =
-    let s = c .before .before .before .before .before .before .before .before .before .before .before .before .before .before .before .before .before .before .before .before .before .before .before .before .before .before .before .before .before .before .before .before .before .before .before .before in
+    let s = c .before .before .before .before .before .before .before .before .before .before .before .before .before .before .before .before .before .before .before .before .before .before .before .before .before .before .before .before .before .before .before .before .before .before .before .before .before in
     let x = s .args in
     let q = c .before .before .before .raise in
     let first = ap (λ k. x .a * k) (c .before .before .before .before .room .ensures .0) in
@@ -132,14 +139,14 @@ returns-2 c =
 
 mark-requires : tie.Need-mark-requires
 mark-requires c κs =
-    let s = c .before .before .before .before .before .before .before .before .before .before .before .before .before .before .before .before .before .before .before .before .before .before .before .before .before .before .before .before .before .before .before .before .before .before .before .before .before in
+    let s = c .before .before .before .before .before .before .before .before .before .before .before .before .before .before .before .before .before .before .before .before .before .before .before .before .before .before .before .before .before .before .before .before .before .before .before .before .before .before in
     (s .pre .0, omega (arith, s .pre .3 .marks-long, length-set (s .args .marks .now) (s .args .a) 0))
 
 same-length-13 : tie.Need-same-length-13
 same-length-13 c = search needs
 
 same-length-14 : tie.Need-same-length-14
-same-length-14 c = c .before .before .mark .ensures .long ∙ length-set (c .before .before .before .before .before .before .before .before .before .before .before .before .before .before .before .before .before .before .before .before .before .before .before .before .before .before .before .before .before .before .before .before .before .before .before .before .before .before .before .before .args .marks .now) (c .before .before .before .before .before .before .before .before .before .before .before .before .before .before .before .before .before .before .before .before .before .before .before .before .before .before .before .before .before .before .before .before .before .before .before .before .before .before .before .before .args .a) 0
+same-length-14 c = c .before .before .mark .ensures .long ∙ length-set (c .before .before .before .before .before .before .before .before .before .before .before .before .before .before .before .before .before .before .before .before .before .before .before .before .before .before .before .before .before .before .before .before .before .before .before .before .before .before .before .before .before .args .marks .now) (c .before .before .before .before .before .before .before .before .before .before .before .before .before .before .before .before .before .before .before .before .before .before .before .before .before .before .before .before .before .before .before .before .before .before .before .before .before .before .before .before .before .args .a) 0
 
 same-length-15 : tie.Need-same-length-15
 same-length-15 c = search needs
@@ -155,7 +162,7 @@ same-length-18 c = search needs
 
 returns-3 : tie.Need-returns-3
 returns-3 c =
-    let s = c .before .before .before .before .before .before .before .before .before .before .before .before .before .before .before .before .before .before .before .before .before .before .before .before .before .before .before .before .before .before .before .before .before .before .before .before .before .before .before .before in
+    let s = c .before .before .before .before .before .before .before .before .before .before .before .before .before .before .before .before .before .before .before .before .before .before .before .before .before .before .before .before .before .before .before .before .before .before .before .before .before .before .before .before .before in
     let x = s .args in
     let q = c .before .before .before .before .before .before .before .raise in
     let k = c .before .before .mark in
@@ -172,6 +179,8 @@ turn-spec =
     hops-requires
     mul-end
     shared-slice-read-end
+    count-requires
+    add-stride
     responses-requires
     same-length
     same-length-2

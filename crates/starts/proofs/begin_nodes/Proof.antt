@@ -1,6 +1,6 @@
 -- `starts::begin_nodes` meets its contract.
 use Prim.Native.Nat.{_-_, _≤_}
-use Rattle.starts.proofs.Kept.{shaped-less, Noded, noded-none, noded-room, noded-more, noded-all}
+use Rattle.starts.proofs.Kept.{strided-room, shaped-less, Noded, noded-none, noded-more, noded-all}
 use borrow.Author.Needs.{needs}
 use native.Mathlib.Omega.{arith}
 use Rattle.starts.proofs.begin_nodes.Statement.{statement}
@@ -9,39 +9,33 @@ use Rattle.starts.proofs.begin_nodes.Reads as reads
 use Rattle.starts.proofs.begin_nodes.Lts as lts
 use Rattle.least.proofs.lesser.Reads as lesser-reads
 use Rattle.blocks.proofs.begin_node.Reads as begin-node-reads
-use Rattle.blocks.proofs.entries_in.Reads as entries-in-reads
 
 abbrev Inv-loop : tie.InvT-loop
-Inv-loop e steps₀ m u end next₀ at₀ p₀ steps next at p = (p ≤ m) × Noded e end u steps₀ steps next at p
+Inv-loop e steps₀ m stride u end next₀ at₀ p₀ steps next at p = (p ≤ m) × Noded e stride m end u steps₀ steps next at p
 
 abbrev μ-loop : tie.MeasureT-loop
-μ-loop e steps₀ m u end next₀ at₀ p₀ steps next at p = m - p
+μ-loop e steps₀ m stride u end next₀ at₀ p₀ steps next at p = m - p
 
 loop-holds : tie.Need-loop-holds Inv-loop μ-loop
-loop-holds c = let a = c .before .before .args in (omega arith, noded-none (a .e .now) (a .end) (a .u) (a .steps .now) (omega arith))
+loop-holds c =
+    let s = c .before .before in
+    let a = s .args in
+    (omega arith, noded-none (a .e .now) (a .stride) (a .m) (a .end) (a .u) (a .steps .now) (s .pre .3) (omega arith))
 
 begin-node-requires : tie.Need-begin-node-requires Inv-loop μ-loop
 begin-node-requires c κs =
     let s = c .before .before .before .before .before in
     let a = s .args in
     let l = c .before .before .loop in
-    (shaped-less (omega arith) (s .pre .0), omega arith, omega arith, noded-room (a .e .now) (a .end) (a .u) (a .steps .now) (l .steps) (l .next) (l .at) (l .p) (l .inv .1) (a .m) (omega arith) (s .pre .3), omega (arith, l .inv .1 .long))
+    (shaped-less (omega arith) (s .pre .0), omega arith, omega arith, strided-room (l .inv .1 .room) (l .inv .1 .place) (omega arith) .0, l .inv .1 .room .short)
 
 lesser-requires : tie.Need-lesser-requires Inv-loop μ-loop
 lesser-requires c κs = search needs
 
-entries-in-requires : tie.Need-entries-in-requires Inv-loop μ-loop
-entries-in-requires c κs = shaped-less (omega arith) (c .before .before .before .before .before .before .before .before .before .pre .0)
-
 add-at : tie.Need-add-at Inv-loop μ-loop
-add-at c = search needs
-
-add-at-2 : tie.Need-add-at-2 Inv-loop μ-loop
-add-at-2 c =
-    let s = c .before .before .before .before .before .before .before .before .before .before in
-    let a = s .args in
-    let l = c .before .before .before .before .before .before .before .loop in
-    omega (arith, c .entries-in .ensures .1, noded-room (a .e .now) (a .end) (a .u) (a .steps .now) (l .steps) (l .next) (l .at) (l .p) (l .inv .1) (a .m) (omega arith) (s .pre .3), l .inv .1 .long)
+add-at c =
+    let l = c .before .before .before .before .before .before .loop in
+    omega (arith, strided-room (l .inv .1 .room) (l .inv .1 .place) (omega arith) .1, l .inv .1 .room .short)
 
 add-p : tie.Need-add-p Inv-loop μ-loop
 add-p c = search needs
@@ -51,10 +45,10 @@ loop-less c = search needs
 
 loop-again : tie.Need-loop-again Inv-loop μ-loop
 loop-again c =
-    let a = c .before .before .before .before .before .before .before .before .before .before .args in
-    let l = c .before .before .before .before .before .before .before .loop in
-    let n = c .before .before .before .before .begin-node in
-    (omega arith, noded-more (a .e .now) (a .end) (a .u) (a .steps .now) (l .steps) (l .next) (l .at) (l .p) (l .inv .1) (n .last .1 .0) (n .ensures .1) (n .result) (c .before .lesser .result) (c .entries-in .result) (n .ensures .0 .0) (n .ensures .0 .1) (c .before .lesser .ensures) (c .entries-in .ensures .0))
+    let a = c .before .before .before .before .before .before .before .before .before .args in
+    let l = c .before .before .before .before .before .before .loop in
+    let n = c .before .before .before .begin-node in
+    (omega arith, noded-more (a .e .now) (a .stride) (a .m) (a .end) (a .u) (a .steps .now) (l .steps) (l .next) (l .at) (l .p) (l .inv .1) (omega arith) (n .last .1 .0) (n .ensures .1) (n .result) (c .lesser .result) (n .ensures .0 .0) (n .ensures .0 .1) (c .lesser .ensures))
 
 same-length : tie.Need-same-length Inv-loop μ-loop
 same-length c = c .before .loop .inv .1 .long
@@ -63,7 +57,7 @@ returns : tie.Need-returns Inv-loop μ-loop
 returns c =
     let a = c .before .before .before .before .args in
     let l = c .before .loop in
-    (noded-all (a .e .now) (a .end) (a .u) (a .steps .now) (l .steps) (l .next) (l .at) (l .p) (l .inv .1) (a .m) (omega arith) (omega arith), l .inv .1 .long)
+    (noded-all (a .e .now) (a .stride) (a .m) (a .end) (a .u) (a .steps .now) (l .steps) (l .next) (l .at) (l .p) (l .inv .1) (omega arith) (omega arith), l .inv .1 .long)
 
 pub begin-nodes-spec : {M : Type 1} → statement M
 begin-nodes-spec =
@@ -74,9 +68,7 @@ begin-nodes-spec =
     loop-holds
     begin-node-requires
     lesser-requires
-    entries-in-requires
     add-at
-    add-at-2
     add-p
     loop-less
     loop-again

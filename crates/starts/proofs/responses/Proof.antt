@@ -4,7 +4,7 @@ use Prim.Native.Nat.{_-_, _<_}
 use lib.ListN.{length}
 use Rattle.starts.specs.Runs.{Behind}
 use Rattle.starts.specs.Kept.{KeptTo}
-use Rattle.starts.proofs.Kept.{kept-on}
+use Rattle.starts.proofs.Kept.{strided-same, kept-on}
 use Rattle.starts.proofs.Nodes.{behind-none, behind-then}
 use Rattle.starts.proofs.Tries.{Tried, small-zeros, tried-none, tried-past, tried-next, tried-all}
 use borrow.Author.Needs.{needs}
@@ -18,10 +18,10 @@ use Rattle.starts.proofs.instant.Reads as instant-reads
 use Rattle.starts.proofs.keep.Reads as keep-reads
 
 abbrev Inv-loop : tie.InvT-loop
-Inv-loop e slots₀ steps₀ best₀ m end u₀ slots steps best u = Tried e m end slots best u × (length slots ≡ length slots₀) × Behind m best₀ best × (length steps ≡ length steps₀) × (0 < u → KeptTo e end (u - 1) steps m)
+Inv-loop e slots₀ steps₀ best₀ m stride end u₀ slots steps best u = Tried e m end slots best u × (length slots ≡ length slots₀) × Behind m best₀ best × (length steps ≡ length steps₀) × (0 < u → KeptTo e stride end (u - 1) steps m)
 
 abbrev μ-loop : tie.MeasureT-loop
-μ-loop e slots₀ steps₀ best₀ m end u₀ slots steps best u = end - u
+μ-loop e slots₀ steps₀ best₀ m stride end u₀ slots steps best u = end - u
 
 add-clear : tie.Need-add-clear Inv-loop μ-loop
 add-clear c = search needs
@@ -43,7 +43,7 @@ keep-requires : tie.Need-keep-requires Inv-loop μ-loop
 keep-requires c κs =
     let a = c .before .before .before .before .before .before .before .before .before .before .before .before .before .before .before in
     let l = c .before .before .loop in
-    ((a .pre .0 .0, omega arith, a .pre .0 .1, omega (arith, l .inv .3, a .pre .1 .0), omega (arith, l .inv .3, a .pre .1 .1)), l .inv .4)
+    ((a .pre .0 .0, omega arith, a .pre .0 .1, strided-same (l .inv .3) (a .pre .1)), l .inv .4)
 
 instant-requires : tie.Need-instant-requires Inv-loop μ-loop
 instant-requires c κs =
@@ -52,7 +52,7 @@ instant-requires c κs =
     let k = c .before .before .before .before .before .keep in
     let z = c .before .before .before .before .before .before .before .before .before .before .before .before .before .before .before .clear .ensures in
     let y = c .before .before .before .before .before .before .before .before .before .before .before .clear2 .ensures in
-    ((a .pre .0 .0, omega (arith, c .before .before .before .before .before .before .before .loop-test .taken, a .pre .0 .1), l .inv .0 .small, omega (arith, l .inv .1, z .1 .long, a .pre .0 .3), omega (arith, l .inv .2 .long, y .1 .long, a .pre .0 .4), l .inv .0 .low), (omega (arith, k .ensures .1, l .inv .3, a .pre .1 .0), omega (arith, k .ensures .1, l .inv .3, a .pre .1 .1), λ p on. k .ensures .0 .0 p on .sum))
+    ((a .pre .0 .0, omega (arith, c .before .before .before .before .before .before .before .loop-test .taken, a .pre .0 .1), l .inv .0 .small, omega (arith, l .inv .1, z .1 .long, a .pre .0 .3), omega (arith, l .inv .2 .long, y .1 .long, a .pre .0 .4), l .inv .0 .low), (strided-same (k .ensures .1 ∙ l .inv .3) (a .pre .1), λ p on. (k .ensures .0 .0 p on .sum, k .ensures .0 .0 p on .looks)))
 
 clear-requires-3 : tie.Need-clear-requires-3 Inv-loop μ-loop
 clear-requires-3 c κs =
@@ -90,7 +90,7 @@ loop-again c =
     let l = c .before .before .before .before .before .before .before .before .before .before .before .before .before .before .loop in
     let i = c .before .before .before .before .before .instant in
     let k = c .before .before .before .before .before .before .before .before .before .before .before .keep in
-    (tried-next (a .args .e .now) (a .args .m) (a .args .end) (l .slots) (l .best) (l .u) (l .inv .0) (c .before .before .before .before .before .before .before .before .before .before .before .before .before .loop-test .taken) (i .last .1 .0) (i .last .1 .1 .1 .0) (i .result) (i .ensures .0) (search needs) (i .ensures .1 .0 .0) (i .ensures .1 .1 .0) (a .pre .0 .0 .looks) (k .result) (k .ensures .0 .1), i .ensures .1 .0 .1 ∙ l .inv .1, behind-then (l .inv .2) (i .ensures .1 .1 .1), k .ensures .1 ∙ l .inv .3, λ h. kept-on (a .args .e .now) (a .args .end) (l .u) (a .args .m) (k .result) (k .last .1 .0) (k .ensures .0 .0) (k .ensures .0 .1))
+    (tried-next (a .args .e .now) (a .args .m) (a .args .end) (l .slots) (l .best) (l .u) (l .inv .0) (c .before .before .before .before .before .before .before .before .before .before .before .before .before .loop-test .taken) (i .last .1 .0) (i .last .1 .1 .1 .0) (i .result) (i .ensures .0) (search needs) (i .ensures .1 .0 .0) (i .ensures .1 .1 .0) (a .pre .0 .0 .looks) (k .result) (k .ensures .0 .1), i .ensures .1 .0 .1 ∙ l .inv .1, behind-then (l .inv .2) (i .ensures .1 .1 .1), k .ensures .1 ∙ l .inv .3, λ h. kept-on (a .args .e .now) (a .args .stride) (a .args .end) (l .u) (a .args .m) (k .result) (k .last .1 .0) (k .ensures .0 .0) (k .ensures .0 .1))
 
 same-length-4 : tie.Need-same-length-4 Inv-loop μ-loop
 same-length-4 c = c .before .loop .inv .1 ∙ c .before .before .before .before .before .before .before .before .clear .ensures .1 .long

@@ -15,10 +15,10 @@ use Rattle.blocks.proofs.block_at.Reads as block-at-reads
 use Rattle.blocks.proofs.sum_at.Reads as sum-at-reads
 
 abbrev Inv-loop : tie.InvT-loop
-Inv-loop e v₀ p kept from at add last w₀ v w = (add ≡ added e p) × (last ≡ mostTime + values v₀ instantSlot) × Kept v₀ v × Climbs e p v₀ from w × (w < 2305843009213693952)
+Inv-loop e v₀ p kept looks from at add last w₀ v w = (add ≡ added e p) × (last ≡ mostTime + values v₀ instantSlot) × Kept v₀ v × Climbs e p v₀ from w × (w < 2305843009213693952)
 
 abbrev μ-loop : tie.MeasureT-loop
-μ-loop e v₀ p kept from at add last w₀ v w = last + 1 - w
+μ-loop e v₀ p kept looks from at add last w₀ v w = last + 1 - w
 
 block-at-requires : tie.Need-block-at-requires Inv-loop μ-loop
 block-at-requires c κs = search needs
@@ -56,7 +56,7 @@ sum-at-requires c κs =
     let a = c .before .before .before .before .before .before .before .before in
     let l = c .before .before .loop in
     let k = kept-set (a .args .v .now) (l .v) (l .inv .2) (omega arith) (l .w) (omega arith) in
-    (a .pre .0, k .small, omega (arith, k .long), a .pre .4 ∙ ap (instantSum (a .args .e .now) (a .args .p)) (sym (k .others instantSlot (λ z. omega arith))))
+    (a .pre .0, k .small, omega (arith, k .long), a .pre .4 ∙ ap (instantSum (a .args .e .now) (a .args .p)) (sym (k .others instantSlot (λ z. omega arith))), a .pre .5)
 
 same-length : tie.Need-same-length Inv-loop μ-loop
 same-length c = search needs
