@@ -65,19 +65,19 @@ module _ (i j : Flow) (x y : ℕ) (one : x ≡ i .number) (other : y ≡ j .numb
       unfolding role
       lower-side e = rw (apart, under, ne-eqb _ _ (λ s. e (mine ∙ s ∙ sym its)))
 
-aside : (ρ : Role) → (sideNumber ρ ≡ 0 → ⊥) → (sideNumber ρ ≡ 3 → ⊥) → higherOrEqual ρ ≡ true
+pub aside : (ρ : Role) → (sideNumber ρ ≡ 0 → ⊥) → (sideNumber ρ ≡ 3 → ⊥) → higherOrEqual ρ ≡ true
 aside Own p q = absurd (p refl)
 aside Higher p q = refl
 aside Equal p q = refl
 aside Lower p q = absurd (q refl)
 
-own-aside : (ρ : Role) → sideNumber ρ ≡ 0 → higherOrEqual ρ ≡ false
+pub own-aside : (ρ : Role) → sideNumber ρ ≡ 0 → higherOrEqual ρ ≡ false
 own-aside Own p = refl
 own-aside Higher p = absurd (omega arith)
 own-aside Equal p = absurd (omega arith)
 own-aside Lower p = refl
 
-lower-aside : (ρ : Role) → sideNumber ρ ≡ 3 → higherOrEqual ρ ≡ false
+pub lower-aside : (ρ : Role) → sideNumber ρ ≡ 3 → higherOrEqual ρ ≡ false
 lower-aside Own p = refl
 lower-aside Higher p = absurd (omega arith)
 lower-aside Equal p = absurd (omega arith)

@@ -34,6 +34,16 @@ module _ {A : Type 0} where
         same : n ≤ k → n ≡ k
         same q = omega arith
 
+-- there is one such place
+pub first-one : {f : ℕ → ℕ} {m bound r s : ℕ} → First f m bound r → First f m bound s → r ≡ s
+first-one {f} {m} {bound} {r} {s} p q = elim (le-or-lt r s) [
+  | inl h ↦ elim (le-or-lt s r) [
+    | inl g ↦ omega arith
+    | inr g ↦ absurd (omega (arith, p .found (omega (arith, q .most)), q .before r g))
+  ]
+  | inr h ↦ absurd (omega (arith, q .found (omega (arith, p .most)), p .before s h))
+]
+
 -- equal numbers have the same first one below the bound
 pub first-same : (f g : ℕ → ℕ) (m bound r : ℕ) → ((k : ℕ) → k < m → f k ≡ g k) → First f m bound r → First g m bound r
 first-same f g m bound r e q = record {

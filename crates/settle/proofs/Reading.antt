@@ -5,19 +5,20 @@ use mathlib.Core.List.{List, _∷_, map, List·Memᴰ, List·Memᴰ·head, List�
 use Prim.Native.Nat.{ℕ, _<_}
 use native.Mathlib.Omega.{arith}
 use lib.Dec.{eqb}
-use borrow.Author.Tests.{eq-eqb, eqb-true, eqb-false}
+use borrow.Author.Tests.{eqb-true, eqb-false}
 use Rattle.least.specs.Count.{pick}
 use Rattle.least.proofs.Fold.{false-true, any-at}
 use Rattle.rules.specs.Net.{Flow, Net}
-use Rattle.rules.specs.Formula.{Own, Equal, both, role, higherOrEqual, crosses, slowest, Crossing, crossings, weight, Key, Arrivals}
+use Rattle.rules.specs.Formula.{Equal, both, role, higherOrEqual, crosses, slowest, Crossing, crossings, weight, Key, Arrivals}
 use Rattle.rules.specs.Meaning.{Here}
 use Rattle.rules.specs.Valid.{Valid}
 use Rattle.rules.specs.Ready.{Agree}
 use Rattle.rules.proofs.Shared.{shared, slowest-shared, uncrossed-nothing}
 use Rattle.nets.specs.Nets.{countIn, flowIn, flowsIn, netIn}
 use Rattle.nets.proofs.Reading.{flows-length, flow-at}
+use Rattle.nets.proofs.Sets.{flow-here, one-flow, own-role}
 use Rattle.sheets.specs.Fields.{placeIn}
-use Rattle.sheets.proofs.Places.{flow-here, place-at, one-flow}
+use Rattle.sheets.proofs.Places.{place-at}
 use Rattle.settle.specs.Reading.{equal, readsOf, readsOwn, readsFlow, Unread}
 
 -- a crossing of i that weighs is that of a flow of the net which crosses i
@@ -49,10 +50,6 @@ module _ (N : Net) (i : Flow) where
     read-there : higherOrEqual (role i (k .flow)) ≡ true → readsOf i (k .flow) ≡ true
     unfolding readsOf
     read-there q = rw (q, meets)
-
-own-role : (i j : Flow) → i .number ≡ j .number → role i j ≡ Own
-unfolding role
-own-role i j e = rw (eq-eqb (i .number) (j .number) e)
 
 module _ (net : List ℕ) (val : Valid (netIn net)) (b a : ℕ) (hb : b < countIn net) (ha : a < countIn net) where
   abbrev N : Net

@@ -26,8 +26,9 @@ use Rattle.rules.proofs.Settle.{next-rising, responses-rise, past-none, rest-le
 use Rattle.rules.proofs.Agree.{response-agree}
 use Rattle.nets.specs.Nets.{noFlow, flowAt, nodeAt, positionOf}
 use Rattle.nets.proofs.Places.{visits-at, position-below, position-node, position-at}
+use Rattle.nets.proofs.Sets.{flow-here}
 use Rattle.sheets.specs.Fields.{responsesIn}
-use Rattle.sheets.proofs.Places.{flow-here, place-at}
+use Rattle.sheets.proofs.Places.{place-at}
 use Rattle.settle.specs.Reading.{Unread}
 use Rattle.settle.specs.Good.{arrivalsIn, held, due, Good, Rests}
 

@@ -17,9 +17,10 @@ use Rattle.least.specs.Fold.{anyOf}
 use Rattle.least.proofs.Count.{le-or-lt}
 use Rattle.least.proofs.Lists.{drop-next, drop-past, length-to, at-to}
 use Rattle.rules.specs.Net.{Flow}
-use Rattle.rules.specs.Formula.{Role, Own, Higher, Equal, Lower, role, higherOrEqual, crosses}
+use Rattle.rules.specs.Formula.{Role, Own, Higher, Equal, Lower, role, crosses}
 use Rattle.nets.specs.Nets.{countIn, roomIn, lengthIn, flowIn, flowsIn, noFlow}
 use Rattle.crossings.specs.Pairs.{sideNumber}
+use Rattle.crossings.proofs.Noting.{aside, own-aside, lower-aside}
 use Rattle.blocks.specs.Sheet.{mostTime, entriesIn, Small}
 use Rattle.blocks.specs.Kept.{keptSize}
 use Rattle.starts.specs.Kept.{Strided}
@@ -113,24 +114,6 @@ unequal-side Higher e = refl
 unequal-side Equal e = absurd (e refl)
 unequal-side Lower e = refl
 
-own-side : (x : Role) → sideNumber x ≡ 0 → higherOrEqual x ≡ false
-own-side Own e = refl
-own-side Higher e = absurd (omega arith)
-own-side Equal e = absurd (omega arith)
-own-side Lower e = refl
-
-lower-side : (x : Role) → sideNumber x ≡ 3 → higherOrEqual x ≡ false
-lower-side Own e = refl
-lower-side Higher e = absurd (omega arith)
-lower-side Equal e = absurd (omega arith)
-lower-side Lower e = refl
-
-other-side : (x : Role) → (sideNumber x ≡ 0 → ⊥) → (sideNumber x ≡ 3 → ⊥) → higherOrEqual x ≡ true
-other-side Own e f = absurd (e refl)
-other-side Higher e f = refl
-other-side Equal e f = refl
-other-side Lower e f = absurd (f refl)
-
 module _ (i j : Flow) (side : ℕ) (is : side ≡ sideNumber (role i j)) where
   pub equal-meets : side ≡ 2 → meetsEqual i j ≡ crosses (i .path) (j .path)
   equal-meets e = rw (equal-side (role i j) (sym is ∙ e))
@@ -140,15 +123,15 @@ module _ (i j : Flow) (side : ℕ) (is : side ≡ sideNumber (role i j)) where
 
   pub own-unread : side ≡ 0 → readsOf i j ≡ false
   unfolding readsOf
-  own-unread e = rw (own-side (role i j) (sym is ∙ e))
+  own-unread e = rw (own-aside (role i j) (sym is ∙ e))
 
   pub lower-unread : side ≡ 3 → readsOf i j ≡ false
   unfolding readsOf
-  lower-unread e = rw (lower-side (role i j) (sym is ∙ e))
+  lower-unread e = rw (lower-aside (role i j) (sym is ∙ e))
 
   pub other-read : (side ≡ 0 → ⊥) → (side ≡ 3 → ⊥) → readsOf i j ≡ crosses (i .path) (j .path)
   unfolding readsOf
-  other-read e f = rw (other-side (role i j) (λ q. e (is ∙ q)) (λ q. f (is ∙ q)))
+  other-read e f = rw (aside (role i j) (λ q. e (is ∙ q)) (λ q. f (is ∙ q)))
 
 module _ (net : List ℕ) (b a : ℕ) where
   pub reads-itself : b ≡ a → readsFlow net b a ≡ readsOwn net a

@@ -18,7 +18,7 @@ use Rattle.rules.specs.Valid.{RisingNumbers, Valid}
 use Rattle.rules.proofs.Path.{visits-cases}
 use Rattle.nets.specs.Nets.{noHop, noFlow, flowAt, positionOf}
 use Rattle.nets.proofs.Places.{member-at, position-below, position-at}
-pub use Rattle.nets.proofs.Sets.{flow-here, one-flow}
+use Rattle.nets.proofs.Sets.{flow-here, one-flow}
 use Rattle.sheets.specs.Fields.{arrivalBy, placeIn, responsesIn}
 
 -- where numbers rise, a flow's place is found by its number

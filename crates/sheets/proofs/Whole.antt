@@ -25,7 +25,7 @@ use Rattle.ways.specs.Ways.{baseOf}
 use Rattle.blocks.specs.Sheet.{added, sheetSum, seen, sums}
 use Rattle.starts.specs.Runs.{StartsOf, Maxima, ResponsesAre}
 use Rattle.sheets.specs.Fields.{upTo, Entry, entriesTo, Listed, addedOf, SheetIs, responsesIn}
-use Rattle.sheets.proofs.Places.{flow-here}
+use Rattle.nets.proofs.Sets.{flow-here}
 use Rattle.sheets.proofs.Link.{listed-sum, entries-sum}
 
 module _ (N : Net) (val : Valid N) (w : ℕ) (r : ℕ → ℕ) (a : ℕ) (here : a < length (N .flows)) (e : List ℕ) (sheet : SheetIs N w r a e) where
