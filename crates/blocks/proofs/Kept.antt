@@ -1,35 +1,18 @@
 -- What the walk keeps of a node: a law for the start, a turn and the end, of its entries. Assumes nothing.
-use mathlib.Core.Path.{_≡_, refl, sym, _∙_, subst}
+use mathlib.Core.Path.{_≡_, sym, _∙_, subst}
 use mathlib.Core.List.{List}
 use Prim.Native.Nat.{ℕ, _+_, _≤_, _<_, min}
 use native.Mathlib.Omega.{arith}
 use lib.ListN.{length, set, length-set}
 use lib.Seq.{getD-set-same, getD-set-other}
 use borrow.Author.Count.{below-more}
-use Rattle.least.specs.Lists.{values}
+use Rattle.least.specs.Lists.{values, Inside}
+use Rattle.least.proofs.Stores.{inside-none, inside-set, inside-then}
 use Rattle.least.proofs.Steps.{step-on}
 use Rattle.blocks.specs.Sheet.{entriesIn, entryAt, instantSum}
 use Rattle.blocks.specs.Steps.{EntryStep, NodeStep}
-use Rattle.blocks.specs.Kept.{keptSize, Looking, KeptAt, Inside}
+use Rattle.blocks.specs.Kept.{keptSize, Looking, KeptAt}
 use Rattle.blocks.proofs.Steps.{EntriesStep, entries-none, entries-more, entries-all}
-
-pub inside-none : {a b : ℕ} {l : List ℕ} → Inside a b l l
-inside-none = record { before = λ k h. refl; behind = λ k h. refl; long = refl }
-
-pub inside-set : (l : List ℕ) (k v : ℕ) → Inside k (k + 1) l (set l k v)
-inside-set l k v = record {
-  before = λ j h. getD-set-other l k j v 0 (λ z. omega arith);
-  behind = λ j h. getD-set-other l k j v 0 (λ z. omega arith);
-  long = simp length-set;
-}
-
--- one change behind another, both from a up to b
-pub inside-then : (a b : ℕ) {c d c′ d′ : ℕ} {l l′ l″ : List ℕ} → a ≤ c → d ≤ b → a ≤ c′ → d′ ≤ b → Inside c d l l′ → Inside c′ d′ l′ l″ → Inside a b l l″
-inside-then a b h g h′ g′ i j = record {
-  before = λ k q. j .before k (omega arith) ∙ i .before k (omega arith);
-  behind = λ k q. j .behind k (omega arith) ∙ i .behind k (omega arith);
-  long = j .long ∙ i .long;
-}
 
 -- the sum and the node's next step written
 abbrev pub headed : List ℕ → ℕ → ℕ → ℕ → List ℕ

@@ -3,7 +3,6 @@
 use mathlib.Core.Path.{_≡_}
 use mathlib.Core.List.{List}
 use Prim.Native.Nat.{ℕ, _+_, _≤_, _<_}
-use lib.ListN.{length}
 use Rattle.least.specs.Lists.{values}
 use Rattle.blocks.specs.Sheet.{instantSlot, entriesIn, entryAt, instantSum}
 use Rattle.blocks.specs.Steps.{EntryStep, NodeStep}
@@ -23,9 +22,3 @@ pub record KeptAt (e : List ℕ) (end u : ℕ) (steps : List ℕ) (p at : ℕ) :
   pub each : (q : ℕ) → q < entriesIn e p → EntryStep e (entryAt e p q) u end (values steps (at + keptSize + q))
   -- none before the node's
   pub after : (q : ℕ) → q < entriesIn e p → values steps (at + 1) ≤ values steps (at + keptSize + q)
-
--- no place but those from a up to b is changed
-pub record Inside (a b : ℕ) (l l′ : List ℕ) : Type 0 where
-  pub before : (k : ℕ) → k < a → values l′ k ≡ values l k
-  pub behind : (k : ℕ) → b ≤ k → values l′ k ≡ values l k
-  pub long : length l′ ≡ length l

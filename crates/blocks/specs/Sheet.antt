@@ -15,9 +15,9 @@ headSize = 3
 abbrev pub entrySize : ℕ
 entrySize = 5
 
--- the horizon H
-abbrev pub mostTime : ℕ
-mostTime = 65535
+-- how late an instant may be, so that no sum is cut; the horizon is another matter
+abbrev pub mostInstant : ℕ
+mostInstant = 262143
 
 -- where a count may look: the starting time sought, the instant, the starting times at the nodes
 abbrev pub hereSlot : ℕ

@@ -4,11 +4,11 @@ ghost use mathlib.Core.Path.{_≡_};
 ghost use Prim.Native.Nat.{_+_, _-_, _<_, _≤_};
 ghost use lib.ListN.{length};
 ghost use Rattle.least.specs.Count.{count};
-ghost use Rattle.least.specs.Lists.{values};
+ghost use Rattle.least.specs.Lists.{values, Inside};
 ghost use Rattle.least.specs.Steps.{Step};
-ghost use Rattle.blocks.specs.Sheet.{mostTime, entrySize, instantSlot, nodeSlot, blockAt, entriesIn, entryAt, termOf, instantTerm, lookTerm, instantSum, sheetSum, Small, Shaped};
+ghost use Rattle.blocks.specs.Sheet.{mostInstant, entrySize, instantSlot, nodeSlot, blockAt, entriesIn, entryAt, termOf, instantTerm, lookTerm, instantSum, sheetSum, Small, Shaped};
 ghost use Rattle.blocks.specs.Steps.{EntryStep, NodeStep};
-ghost use Rattle.blocks.specs.Kept.{keptSize, Looking, KeptAt, Inside};
+ghost use Rattle.blocks.specs.Kept.{keptSize, Looking, KeptAt};
 
 // A block for each node: what hangs on nothing, what a response bound adds to W, how many entries there are; then the entries.
 pub const HEAD: usize = 3;
@@ -171,8 +171,8 @@ fn entry_step(e: &[u64], k: usize, u: u64, end: u64) -> u64
 }
 
 // Keeps at a place what of the sum at node p hangs on the instant alone, its next step after u, and behind these each entry's; gives the node's.
-pub fn begin_node(e: &[u64], steps: &mut [u64], p: usize, at: usize, u: u64, end: u64) -> u64
-    requires { ⌜ Shaped (now e) (p + 1) × (u < end) × (end ≤ mostTime) × (at + keptSize + entriesIn (now e) p ≤ length (now steps)) × (length (now steps) ≤ 16777216) ⌝ }
+fn begin_node(e: &[u64], steps: &mut [u64], p: usize, at: usize, u: u64, end: u64) -> u64
+    requires { ⌜ Shaped (now e) (p + 1) × (u < end) × (end ≤ mostInstant) × (at + keptSize + entriesIn (now e) p ≤ length (now steps)) × (length (now steps) ≤ 16777216) ⌝ }
     ensures { λ r. ⌜ KeptAt (now (e .entry)) end u (now (steps .exit)) p at × NodeStep (now (e .entry)) p u end r ⌝ }
     ensures { λ r. ⌜ Inside at (at + keptSize + entriesIn (now (e .entry)) p) (now (steps .entry)) (now (steps .exit)) ⌝ }
 {
@@ -205,7 +205,7 @@ fn advance_entry(
     end: u64,
     sum: u64,
 ) -> u64
-    requires { ⌜ (k + entrySize ≤ length (now e)) × (length (now e) ≤ 16777216) × Small (now e) × (0 < u) × (u < end) × (end ≤ mostTime) × (sum < 1152921504606846976) ⌝ }
+    requires { ⌜ (k + entrySize ≤ length (now e)) × (length (now e) ≤ 16777216) × Small (now e) × (0 < u) × (u < end) × (end ≤ mostInstant) × (sum < 1152921504606846976) ⌝ }
     requires { ⌜ (at < length (now steps)) × (length (now steps) ≤ 16777216) × EntryStep (now e) k (u - 1) end (values (now steps) at) ⌝ }
     ensures { λ r. ⌜ (sum + instantTerm (now (e .entry)) u k ≡ instantTerm (now (e .entry)) (u - 1) k + r) × (r < sum + 16777216) ⌝ }
     ensures { λ r. ⌜ EntryStep (now (e .entry)) k u end (values (now (steps .exit)) at) ⌝ }
@@ -220,7 +220,7 @@ fn advance_entry(
 
 // Takes what is kept of node p from the tick before u to u, at which it steps.
 fn step_node(e: &[u64], steps: &mut [u64], p: usize, at: usize, u: u64, end: u64) -> u64
-    requires { ⌜ Shaped (now e) (p + 1) × (0 < u) × (u < end) × (end ≤ mostTime) × (at + keptSize + entriesIn (now e) p ≤ length (now steps)) × (length (now steps) ≤ 16777216) ⌝ }
+    requires { ⌜ Shaped (now e) (p + 1) × (0 < u) × (u < end) × (end ≤ mostInstant) × (at + keptSize + entriesIn (now e) p ≤ length (now steps)) × (length (now steps) ≤ 16777216) ⌝ }
     requires { ⌜ KeptAt (now e) end (u - 1) (now steps) p at ⌝ }
     ensures { λ r. ⌜ KeptAt (now (e .entry)) end u (now (steps .exit)) p at × NodeStep (now (e .entry)) p u end r ⌝ }
     ensures { λ r. ⌜ Inside at (at + keptSize + entriesIn (now (e .entry)) p) (now (steps .entry)) (now (steps .exit)) ⌝ }
@@ -249,8 +249,8 @@ fn step_node(e: &[u64], steps: &mut [u64], p: usize, at: usize, u: u64, end: u64
 }
 
 // Takes what is kept of node p from the tick before u to u: as it is, if the node does not step there.
-pub fn advance_node(e: &[u64], steps: &mut [u64], p: usize, at: usize, u: u64, end: u64) -> u64
-    requires { ⌜ Shaped (now e) (p + 1) × (0 < u) × (u < end) × (end ≤ mostTime) × (at + keptSize + entriesIn (now e) p ≤ length (now steps)) × (length (now steps) ≤ 16777216) ⌝ }
+fn advance_node(e: &[u64], steps: &mut [u64], p: usize, at: usize, u: u64, end: u64) -> u64
+    requires { ⌜ Shaped (now e) (p + 1) × (0 < u) × (u < end) × (end ≤ mostInstant) × (at + keptSize + entriesIn (now e) p ≤ length (now steps)) × (length (now steps) ≤ 16777216) ⌝ }
     requires { ⌜ KeptAt (now e) end (u - 1) (now steps) p at ⌝ }
     ensures { λ r. ⌜ KeptAt (now (e .entry)) end u (now (steps .exit)) p at × NodeStep (now (e .entry)) p u end r ⌝ }
     ensures { λ r. ⌜ Inside at (at + keptSize + entriesIn (now (e .entry)) p) (now (steps .entry)) (now (steps .exit)) ⌝ }
@@ -260,4 +260,17 @@ pub fn advance_node(e: &[u64], steps: &mut [u64], p: usize, at: usize, u: u64, e
         return next;
     }
     step_node(e, steps, p, at, u, end)
+}
+
+// What is kept of node p: begun at the first instant, taken on from the tick before at each later one.
+pub fn keep_node(e: &[u64], steps: &mut [u64], p: usize, at: usize, u: u64, end: u64) -> u64
+    requires { ⌜ Shaped (now e) (p + 1) × (u < end) × (end ≤ mostInstant) × (at + keptSize + entriesIn (now e) p ≤ length (now steps)) × (length (now steps) ≤ 16777216) ⌝ }
+    requires { ⌜ (0 < u → KeptAt (now e) end (u - 1) (now steps) p at) ⌝ }
+    ensures { λ r. ⌜ KeptAt (now (e .entry)) end u (now (steps .exit)) p at × NodeStep (now (e .entry)) p u end r ⌝ }
+    ensures { λ r. ⌜ Inside at (at + keptSize + entriesIn (now (e .entry)) p) (now (steps .entry)) (now (steps .exit)) ⌝ }
+{
+    if u == 0 {
+        return begin_node(e, steps, p, at, u, end);
+    }
+    advance_node(e, steps, p, at, u, end)
 }

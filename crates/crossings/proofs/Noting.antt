@@ -11,14 +11,15 @@ use lib.Seq.{getD-set-same, getD-set-other}
 use borrow.Author.Count.{below-more}
 use borrow.Author.Tests.{eq-eqb, ne-eqb, lt-ltb, le-ltb, ltb-true}
 use Rattle.least.specs.Count.{pick}
-use Rattle.least.specs.Lists.{values, First}
+use Rattle.least.specs.Lists.{values, First, Ahead}
 use Rattle.least.proofs.Lists.{first-same}
+use Rattle.least.proofs.Stores.{ahead-none, ahead-set, ahead-then}
 use Rattle.rules.specs.Net.{Flow}
 use Rattle.rules.specs.Formula.{Role, Own, Higher, Equal, Lower, role, higherOrEqual, firstOn}
 use Rattle.nets.specs.Nets.{few, countIn, roomIn, lengthIn, hopIn, pathIn, flowIn, positionOf}
 use Rattle.nets.proofs.Reading.{path-length}
 use Rattle.nets.proofs.Places.{before-length}
-use Rattle.crossings.specs.Pairs.{placeOn, sideNumber, alongTo, pairSize, pairAt, PairIs, Noted, Ahead}
+use Rattle.crossings.specs.Pairs.{placeOn, sideNumber, alongTo, pairSize, pairAt, PairIs, Noted}
 use Rattle.crossings.proofs.Turns.{along-turn}
 
 -- where a pair begins
@@ -153,19 +154,6 @@ module _ (net : List ℕ) (a b p s : ℕ) (e : s ≡ sideNumber (role (flowIn ne
   side-along u v t q = rw (aside (role (flowIn net a) (flowIn net b)) (λ z. u (e ∙ z)) (λ z. v (e ∙ z))) (sym q)
 
 -- stores from a place on
-module _ (at : ℕ) (l₀ l : List ℕ) (h : Ahead at l₀ l) where
-  pub ahead-set : (i x : ℕ) → at ≤ i → Ahead at l₀ (set l i x)
-  ahead-set i x q = record {
-    before = λ k r. getD-set-other l i k x 0 (λ e. omega arith) ∙ h .before k r;
-    long = length-set l i x ∙ h .long;
-  }
-
-  pub ahead-then : (l′ : List ℕ) (i : ℕ) → at ≤ i → Ahead i l l′ → Ahead at l₀ l′
-  ahead-then l′ i p q = record { before = λ k r. q .before k (omega arith) ∙ h .before k r; long = q .long ∙ h .long }
-
-pub ahead-none : (at : ℕ) (l : List ℕ) → Ahead at l l
-ahead-none at l = record { before = λ k r. refl; long = refl }
-
 pub places-more : (g : ℕ → ℕ) (l : List ℕ) (at k x : ℕ) → at + k < length l → x ≡ g k → ((j : ℕ) → j < k → values l (at + j) ≡ g j) →
     (j : ℕ) → j < k + 1 → values (set l (at + k) x) (at + j) ≡ g j
 places-more g l at k x q e inv =

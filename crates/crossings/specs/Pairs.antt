@@ -57,8 +57,3 @@ pub record Noted (net pairs : List ℕ) (a b : ℕ) : Type 0 where
   pub all : PairsAre net pairs
   pub one : a < countIn net
   pub other : b < countIn net
-
--- the numbers before that place are as they were
-pub record Ahead (at : ℕ) (l l′ : List ℕ) : Type 0 where
-  pub before : (k : ℕ) → k < at → values l′ k ≡ values l k
-  pub long : length l′ ≡ length l

@@ -4,11 +4,11 @@ ghost use Prim.Native.Nat.{ℕ, _+_, _*_, _≤_, _<_};
 ghost use lib.Dec.{ltb};
 ghost use lib.ListN.{length, drop};
 ghost use Rattle.least.specs.Count.{pick};
-ghost use Rattle.least.specs.Lists.{values, First};
+ghost use Rattle.least.specs.Lists.{values, First, Ahead};
 ghost use Rattle.rules.specs.Formula.{role, visits, crosses};
 ghost use Rattle.rules.specs.Judge.{meetsAgain, returns};
 ghost use Rattle.nets.specs.Nets.{few, Whole, countIn, lengthIn, hopIn, pathIn, flowIn};
-ghost use Rattle.crossings.specs.Pairs.{placeOn, costOn, sideNumber, alongTo, pairSize, pairAt, PairIs, PairsAre, Noted, Ahead};
+ghost use Rattle.crossings.specs.Pairs.{placeOn, costOn, sideNumber, alongTo, pairSize, pairAt, PairIs, PairsAre, Noted};
 
 // What another flow is to this one, as a number. RULES, paths.
 pub const OWN: u64 = 0;

@@ -7,8 +7,7 @@ use native.Mathlib.Omega.{arith}
 use borrow.Author.Count.{below-more}
 use borrow.Author.Tests.{ltb-false}
 use Rattle.least.specs.Lists.{values}
-use Rattle.blocks.specs.Sheet.{mostTime}
-use Rattle.starts.specs.Runs.{LowTo}
+use Rattle.starts.specs.Runs.{mostTime, LowTo}
 use Rattle.findings.specs.Findings.{FirstIs, overloaded, Clear, FirstAt}
 
 module _ (p : ℕ → Bool) where

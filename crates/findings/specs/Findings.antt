@@ -8,7 +8,7 @@ use Rattle.least.specs.Lists.{values}
 use Rattle.rules.specs.Valid.{Valid}
 use Rattle.rules.specs.Judge.{misplaced}
 use Rattle.nets.specs.Nets.{countIn, flowIn, netIn}
-use Rattle.blocks.specs.Sheet.{mostTime}
+use Rattle.starts.specs.Runs.{mostTime}
 use Rattle.settle.specs.Turns.{BusiesAre, SettleIs}
 use Rattle.findings.specs.declared.Finding.{Finding}
 use Rattle.findings.specs.declared.Finding.the-variants.{Misplaced, Overloaded, Past, Settled}

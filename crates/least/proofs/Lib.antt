@@ -3,6 +3,7 @@ pub mod Count
 pub mod Whole
 pub mod Fold
 pub mod Lists
+pub mod Stores
 pub mod Ranges
 pub mod Fixed
 pub mod Vector

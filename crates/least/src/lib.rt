@@ -1,7 +1,9 @@
-// Mathematics with no flow in it: definitions in specs/, laws in proofs/. The code is the greater, the lesser and the difference of two numbers, and
-// a short number as a long one.
+// Mathematics with no flow in it: definitions in specs/, laws in proofs/. The code is the greater, the lesser and the difference of two numbers, a
+// short number as a long one, and a lent slice filled with a number.
 ghost use mathlib.Core.Path.{_≡_};
-ghost use Prim.Native.Nat.{_-_, _≤_, max, min};
+ghost use Prim.Native.Nat.{ℕ, _-_, _≤_, _<_, max, min};
+ghost use lib.ListN.{length};
+ghost use Rattle.least.specs.Lists.{values, Inside};
 
 pub fn greater(a: u64, b: u64) -> u64
     ensures { λ r. ⌜ r ≡ max a b ⌝ }
@@ -30,4 +32,17 @@ pub fn short(x: u16) -> u64
     ensures { λ r. ⌜ r ≤ 65535 ⌝ }
 {
     x as u64
+}
+
+// The first n numbers set to x.
+pub fn fill(l: &mut [u64], n: usize, x: u64)
+    requires { ⌜ n ≤ length (now l) ⌝ }
+    ensures { λ r. ⌜ ((k : ℕ) → k < n → values (now (l .exit)) k ≡ x) ⌝ }
+    ensures { λ r. ⌜ Inside 0 n (now (l .entry)) (now (l .exit)) ⌝ }
+{
+    let mut k: usize = 0;
+    while k < n {
+        l[k] = x;
+        k += 1;
+    }
 }

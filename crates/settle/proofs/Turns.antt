@@ -21,11 +21,11 @@ use Rattle.rules.specs.Formula.{Role, Own, Higher, Equal, Lower, role, crosses}
 use Rattle.nets.specs.Nets.{countIn, roomIn, lengthIn, flowIn, flowsIn, noFlow}
 use Rattle.crossings.specs.Pairs.{sideNumber}
 use Rattle.crossings.proofs.Noting.{aside, own-aside, lower-aside}
-use Rattle.blocks.specs.Sheet.{mostTime, entriesIn, Small}
+use Rattle.blocks.specs.Sheet.{entriesIn, Small}
 use Rattle.blocks.specs.Kept.{keptSize}
 use Rattle.starts.specs.Kept.{Strided}
-use Rattle.starts.specs.Runs.{LowTo}
-use Rattle.starts.proofs.Nodes.{set-cases}
+use Rattle.starts.specs.Runs.{mostTime, LowTo}
+use Rattle.least.proofs.Stores.{set-cases}
 use Rattle.settle.specs.Reading.{equal, meetsEqual, readsOf, readsOwn, readsFlow}
 use Rattle.settle.specs.Turns.{Low, RaisedIs, MarkedIs, ChosenIs, Room}
 
@@ -218,11 +218,6 @@ module _ (marks net : List ℕ) (a n : ℕ) where
 
   pub marking-end : (to : List ℕ) (b : ℕ) → Marking marks net a n to b → n ≤ b → MarkedIs marks net a n to
   marking-end to b m h = let e : b ≡ n = omega (arith, m .few) in subst (λ k. MarkedIs marks net a k to) e (m .done)
-
--- setting
-pub set-more : (l : List ℕ) (k x : ℕ) → k < length l → ((j : ℕ) → j < k → values l j ≡ x) → (j : ℕ) → j < k + 1 → values (set l k x) j ≡ x
-set-more l k x h z =
-    below-more (λ j. values (set l k x) j ≡ x) k (λ j q. getD-set-other l k j x 0 (λ e. omega arith) ∙ z j q) (getD-set-same l k x 0 h)
 
 -- room
 module _ {net busies replies marks sheet slots steps best : List ℕ} (room : Room net busies replies marks sheet slots steps best) where

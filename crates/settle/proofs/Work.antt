@@ -22,9 +22,8 @@ use Rattle.rules.specs.Ready.{Ready}
 use Rattle.nets.specs.Nets.{countIn, roomIn, lengthIn, netIn, flowAt}
 use Rattle.nets.proofs.Reading.{path-length, flows-length, flow-at}
 use Rattle.nets.proofs.Sets.{flow-here}
-use Rattle.blocks.specs.Sheet.{mostTime}
-use Rattle.starts.specs.Runs.{ResponsesAre}
-use Rattle.starts.proofs.Nodes.{set-cases}
+use Rattle.starts.specs.Runs.{mostTime, ResponsesAre}
+use Rattle.least.proofs.Stores.{set-cases}
 use Rattle.sheets.specs.Fields.{SheetIs}
 use Rattle.sheets.proofs.Whole.{responded, responded-past}
 use Rattle.settle.specs.Reading.{readsFlow, Unread}

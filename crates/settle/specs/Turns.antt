@@ -15,7 +15,8 @@ use Rattle.rules.specs.Valid.{Valid}
 use Rattle.rules.specs.Judge.{busyLength}
 use Rattle.rules.specs.Ready.{Ready}
 use Rattle.nets.specs.Nets.{countIn, roomIn, lengthIn, flowIn, netIn}
-use Rattle.blocks.specs.Sheet.{mostTime, Small}
+use Rattle.blocks.specs.Sheet.{Small}
+use Rattle.starts.specs.Runs.{mostTime}
 use Rattle.settle.specs.Reading.{readsFlow}
 use Rattle.settle.specs.Good.{held, Good, Outcome}
 

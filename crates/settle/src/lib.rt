@@ -191,11 +191,8 @@ fn all_set(l: &mut [u64], x: u64)
     ensures { λ r. ⌜ ((k : ℕ) → k < length (now (l .entry)) → values (now (l .exit)) k ≡ x) ⌝ }
     ensures { λ r. ⌜ length (now (l .exit)) ≡ length (now (l .entry)) ⌝ }
 {
-    let mut k: usize = 0;
-    while k < l.len() {
-        l[k] = x;
-        k += 1;
-    }
+    let n = l.len();
+    least::fill(l, n, x);
 }
 
 // The response bounds with the least settled arrival bounds: of flow a at place k of its path at a × room + k, and zeros in all other places. Whether

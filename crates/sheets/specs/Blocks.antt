@@ -10,7 +10,8 @@ use Rattle.rules.specs.Valid.{Valid}
 use Rattle.nets.specs.Nets.{countIn, roomIn, lengthIn, netIn, flowAt, nodeAt}
 use Rattle.crossings.specs.Pairs.{placeOn, Noted}
 use Rattle.ways.specs.Ways.{baseOf, WaysAre}
-use Rattle.blocks.specs.Sheet.{mostTime, blockAt, added, entriesIn, Small, Fit}
+use Rattle.blocks.specs.Sheet.{blockAt, added, entriesIn, Small, Fit}
+use Rattle.starts.specs.Runs.{mostTime}
 use Rattle.sheets.specs.Fields.{Entry, upTo, entriesTo, EntryIs, Listed, addedOf}
 
 -- a head, and room for n entries

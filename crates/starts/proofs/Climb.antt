@@ -12,11 +12,13 @@ use Rattle.least.specs.Count.{pick}
 use Rattle.least.specs.Lists.{values}
 use Rattle.least.specs.Fixed.{Under}
 use Rattle.least.proofs.Fixed.{under-step, under-done}
-use Rattle.blocks.specs.Sheet.{mostTime, hereSlot, instantSlot, nodeSlot, added, sheetSum, seen, sums, Small, Fit}
+use Rattle.least.proofs.Stores.{set-cases}
+use Rattle.blocks.specs.Sheet.{hereSlot, instantSlot, nodeSlot, added, sheetSum, seen, sums, Small, Fit}
+use Rattle.starts.specs.Runs.{mostTime}
 use Rattle.starts.specs.Begins.{BeginIs, Kept}
 use Rattle.starts.specs.declared.Begin.the-variants.{At, Past}
 use Rattle.starts.proofs.Sums.{sheet-ext, sums-rising}
-use Rattle.starts.proofs.Nodes.{set-cases, nodes}
+use Rattle.starts.proofs.Nodes.{nodes}
 
 pub kept-none : {s : List ℕ} → Small s → Kept s s
 kept-none small = record { others = λ k h. refl; small = small; long = refl }

@@ -1,43 +1,20 @@
 -- One instant, node by node: a law for the start, a turn and each way out. Assumes nothing.
 use mathlib.Core.Path.{_≡_, refl, sym, _∙_, subst}
-use mathlib.Core.Bool.{Bool, true, false}
 use mathlib.Core.List.{List}
 use Prim.Native.Nat.{ℕ, _+_, _-_, _≤_, _<_, max}
 use native.Mathlib.Omega.{arith}
-use lib.Dec.{eqb}
 use lib.ListN.{length, set, length-set}
 use lib.Seq.{getD-set-same, getD-set-other}
 use borrow.Author.Count.{below-more}
-use borrow.Author.Tests.{eqb-true, eqb-false}
-use Rattle.least.specs.Lists.{values}
+use Rattle.least.specs.Lists.{values, Inside}
+use Rattle.least.proofs.Stores.{set-cases, inside-none, inside-more}
 use Rattle.least.specs.Fixed.{Least, Under}
-use Rattle.blocks.specs.Sheet.{mostTime, instantSlot, nodeSlot, added, sums, Small, Fit}
+use Rattle.blocks.specs.Sheet.{mostInstant, instantSlot, nodeSlot, added, sums, Small, Fit}
 use Rattle.starts.specs.Begins.{BeginIs, BeginFits, Kept}
-use Rattle.starts.specs.Runs.{StartsOf, prior, LowTo, Behind, AtNode, PastAt}
+use Rattle.starts.specs.Runs.{mostTime, StartsOf, prior, LowTo, AtNode, PastAt}
 use Rattle.starts.specs.declared.Begin.{Begin}
 use Rattle.starts.specs.declared.Begin.the-variants.{At, Past}
 use Rattle.starts.proofs.Sums.{sums-same, start-found, from-under}
-
--- a store at k, seen anywhere
-pub set-cases : (P : ℕ → ℕ → Type 0) (l : List ℕ) (k v : ℕ) → k < length l → P k v → ((j : ℕ) → (j ≡ k → ⊥) → P j (values l j)) →
-    (j : ℕ) → P j (values (set l k v) j)
-set-cases P l k v h here there j = go (eqb j k) refl
-  where
-    go : (b : Bool) → eqb j k ≡ b → P j (values (set l k v) j)
-    go true e = subst (λ i. P i (values (set l k v) i)) (sym (eqb-true j k e)) (subst (P k) (sym (getD-set-same l k v 0 h)) here)
-    go false e = subst (P j) (sym (getD-set-other l k j v 0 (eqb-false j k e))) (there j (eqb-false j k e))
-
-pub behind-none : {m : ℕ} {l : List ℕ} → Behind m l l
-behind-none = record { rest = λ k h. refl; long = refl }
-
-pub behind-then : {m : ℕ} {l l′ l″ : List ℕ} → Behind m l l′ → Behind m l′ l″ → Behind m l l″
-behind-then a b = record { rest = λ k h. b .rest k h ∙ a .rest k h; long = b .long ∙ a .long }
-
-pub behind-set : (m : ℕ) (l₀ l : List ℕ) (k v : ℕ) → k < m → Behind m l₀ l → Behind m l₀ (set l k v)
-behind-set m l₀ l k v h b = record {
-  rest = λ j q. getD-set-other l k j v 0 (λ z. omega arith) ∙ b .rest j q;
-  long = simp length-set (b .long);
-}
 
 -- the starting times in the slots
 abbrev pub nodes : List ℕ → ℕ → ℕ
@@ -61,11 +38,11 @@ pub record Going (e : List ℕ) (m u : ℕ) (slots₀ best₀ slots best : List 
   pub time : values slots instantSlot ≡ u
   pub small : Small slots
   pub low : LowTo m best
-  pub behind : Behind m best₀ best
+  pub behind : Inside 0 m best₀ best
   pub passed : (W : ℕ → ℕ → ℕ) → StartsOf e m W → Priors W m u slots₀ → Passed e W m u best₀ slots best p
 
 module _ (e : List ℕ) (m u : ℕ) where
-  pub going-start : (slots best : List ℕ) → nodeSlot m ≤ length slots → m ≤ length best → u ≤ mostTime → Small slots → LowTo m best →
+  pub going-start : (slots best : List ℕ) → nodeSlot m ≤ length slots → m ≤ length best → u ≤ mostInstant → Small slots → LowTo m best →
       Going e m u (set slots instantSlot u) best (set slots instantSlot u) best 0
   going-start slots best room wide short small low = record {
     few = omega arith;
@@ -75,7 +52,7 @@ module _ (e : List ℕ) (m u : ℕ) where
     time = getD-set-same slots instantSlot u 0 (omega arith);
     small = set-cases (λ j v. v < 16777216) slots instantSlot u (omega arith) (omega arith) (λ j h. small j);
     low = low;
-    behind = behind-none;
+    behind = inside-none;
     passed = λ W starts first. record {
       found = λ k h. absurd (omega arith);
       left = λ k h q. first k q;
@@ -143,7 +120,7 @@ module _ (e : List ℕ) (m u : ℕ) where
             (subst (λ v. Least (sums e v p (nodes slots)) w) (going .time)
             (subst (BeginIs e (values slots instantSlot) p (nodes slots)) at (begin (under W starts first))))
 
-        module _ (slots′ : List ℕ) (kept : Kept slots slots′) (b : ℕ) (is : b ≡ max (values best p) (w + added e p - u)) (short : u ≤ mostTime) where
+        module _ (slots′ : List ℕ) (kept : Kept slots slots′) (b : ℕ) (is : b ≡ max (values best p) (w + added e p - u)) (short : u ≤ mostInstant) where
           now : Going e m u slots₀ best₀ slots′ best p
           now = going-kept slots₀ best₀ slots slots′ best p kept going
 
@@ -186,7 +163,7 @@ module _ (e : List ℕ) (m u : ℕ) where
             time = getD-set-other slots′ (nodeSlot p) instantSlot w 0 (λ z. omega arith) ∙ now .time;
             small = set-cases (λ j v. v < 16777216) slots′ (nodeSlot p) w (omega (arith, now .room)) (omega (arith, begin-small)) (λ j h. now .small j);
             low = λ j q. set-cases (λ j v. j < m → v ≤ mostTime) best p b (omega (arith, going .wide)) (λ h. omega (arith, begin-small, going .low p on)) (λ j d. going .low j) j q;
-            behind = behind-set m best₀ best p b on (going .behind);
+            behind = inside-more p b (omega arith) on (going .behind);
             passed = passed;
           }
 

@@ -5,7 +5,8 @@ use mathlib.Core.List.{List}
 use lib.ListN.{length}
 use Rattle.least.specs.Lists.{values}
 use Rattle.least.specs.Fixed.{Least}
-use Rattle.blocks.specs.Sheet.{mostTime, hereSlot, added, sums, Small}
+use Rattle.blocks.specs.Sheet.{hereSlot, added, sums, Small}
+use Rattle.starts.specs.Runs.{mostTime}
 use Rattle.starts.specs.declared.Begin.{Begin}
 use Rattle.starts.specs.declared.Begin.the-variants.{At, Past}
 

@@ -4,14 +4,14 @@ use blocks::HERE;
 use blocks::INSTANT;
 use blocks::NODE;
 ghost use mathlib.Core.Path.{_≡_};
-ghost use Prim.Native.Nat.{ℕ, _+_, _-_, _<_, _≤_};
+ghost use Prim.Native.Nat.{_+_, _-_, _<_, _≤_};
 ghost use lib.ListN.{length};
 ghost use Rattle.least.specs.Fixed.{Under};
-ghost use Rattle.least.specs.Lists.{values};
-ghost use Rattle.blocks.specs.Sheet.{mostTime, instantSlot, nodeSlot, instantSum, sums, Small, Shaped};
+ghost use Rattle.least.specs.Lists.{values, Inside};
+ghost use Rattle.blocks.specs.Sheet.{mostInstant, instantSlot, nodeSlot, instantSum, sums, Small, Shaped};
 ghost use Rattle.blocks.specs.Kept.{Looking};
 ghost use Rattle.starts.specs.Begins.{BeginIs, BeginFits, Kept};
-ghost use Rattle.starts.specs.Runs.{LowTo, Behind, InstantIs, ResponsesAre};
+ghost use Rattle.starts.specs.Runs.{LowTo, InstantIs, ResponsesAre};
 ghost use Rattle.starts.specs.Steps.{SheetStep};
 ghost use Rattle.starts.specs.Kept.{Strided, KeptTo, SumsTo};
 
@@ -26,7 +26,7 @@ enum Begin {
 
 // The starting time at node p, upwards from a value that is not above it.
 fn start_at(e: &[u64], v: &mut [u64], p: usize, kept: u64, looks: u64, from: u64) -> Begin
-    requires { ⌜ Shaped (now e) (p + 1) × Small (now v) × (nodeSlot p < length (now v)) × (values (now v) instantSlot ≤ mostTime) × (kept ≡ instantSum (now e) p (values (now v) instantSlot)) × Looking (now e) p looks × (from < 16777216) ⌝ }
+    requires { ⌜ Shaped (now e) (p + 1) × Small (now v) × (nodeSlot p < length (now v)) × (values (now v) instantSlot ≤ mostInstant) × (kept ≡ instantSum (now e) p (values (now v) instantSlot)) × Looking (now e) p looks × (from < 16777216) ⌝ }
     ensures { λ r. ⌜ (Under (sums (now (e .entry)) (values (now (v .entry)) instantSlot) p (λ q. values (now (v .entry)) (nodeSlot q))) from → BeginIs (now (e .entry)) (values (now (v .entry)) instantSlot) p (λ q. values (now (v .entry)) (nodeSlot q)) r) ⌝ }
     ensures { λ r. ⌜ BeginFits (now (e .entry)) (values (now (v .entry)) instantSlot) p r ⌝ }
     ensures { λ r. ⌜ Kept (now (v .entry)) (now (v .exit)) ⌝ }
@@ -57,11 +57,11 @@ fn instant(
     stride: usize,
     u: u64,
 ) -> bool
-    requires { ⌜ Shaped (now e) m × (u ≤ mostTime) × Small (now slots) × (nodeSlot m ≤ length (now slots)) × (m ≤ length (now best)) × LowTo m (now best) ⌝ }
+    requires { ⌜ Shaped (now e) m × (u ≤ mostInstant) × Small (now slots) × (nodeSlot m ≤ length (now slots)) × (m ≤ length (now best)) × LowTo m (now best) ⌝ }
     requires { ⌜ Strided (now e) stride m (now steps) × SumsTo (now e) stride u (now steps) m ⌝ }
     ensures { λ r. ⌜ InstantIs (now (e .entry)) m u (now (slots .entry)) (now (best .entry)) r (now (slots .exit)) (now (best .exit)) ⌝ }
     ensures { λ r. ⌜ Small (now (slots .exit)) × (length (now (slots .exit)) ≡ length (now (slots .entry))) ⌝ }
-    ensures { λ r. ⌜ LowTo m (now (best .exit)) × Behind m (now (best .entry)) (now (best .exit)) ⌝ }
+    ensures { λ r. ⌜ LowTo m (now (best .exit)) × Inside 0 m (now (best .entry)) (now (best .exit)) ⌝ }
 {
     slots[INSTANT] = u;
     let mut at: usize = 0;
@@ -82,66 +82,24 @@ fn instant(
     false
 }
 
-// The first m nodes one behind the other. The first step of all is the next of the sheet: a starting time carries a step on to the nodes behind it.
-fn begin_nodes(e: &[u64], steps: &mut [u64], m: usize, stride: usize, u: u64, end: u64) -> u64
-    requires { ⌜ Shaped (now e) m × (u < end) × (end ≤ mostTime) × Strided (now e) stride m (now steps) ⌝ }
-    ensures { λ r. ⌜ KeptTo (now (e .entry)) stride end u (now (steps .exit)) m × SheetStep (now (e .entry)) m u end r ⌝ }
-    ensures { λ r. ⌜ length (now (steps .exit)) ≡ length (now (steps .entry)) ⌝ }
-{
-    let mut next = end;
-    let mut at: usize = 0;
-    let mut p: usize = 0;
-    while p < m {
-        let step = blocks::begin_node(e, steps, p, at, u, end);
-        next = least::lesser(next, step);
-        at += stride;
-        p += 1;
-    }
-    next
-}
-
-fn advance_nodes(e: &[u64], steps: &mut [u64], m: usize, stride: usize, u: u64, end: u64) -> u64
-    requires { ⌜ Shaped (now e) m × (0 < u) × (u < end) × (end ≤ mostTime) × Strided (now e) stride m (now steps) ⌝ }
-    requires { ⌜ KeptTo (now e) stride end (u - 1) (now steps) m ⌝ }
-    ensures { λ r. ⌜ KeptTo (now (e .entry)) stride end u (now (steps .exit)) m × SheetStep (now (e .entry)) m u end r ⌝ }
-    ensures { λ r. ⌜ length (now (steps .exit)) ≡ length (now (steps .entry)) ⌝ }
-{
-    let mut next = end;
-    let mut at: usize = 0;
-    let mut p: usize = 0;
-    while p < m {
-        let step = blocks::advance_node(e, steps, p, at, u, end);
-        next = least::lesser(next, step);
-        at += stride;
-        p += 1;
-    }
-    next
-}
-
-// At the first instant begun, at each later one taken on.
+// What is kept of the first m nodes, one behind the other. The first step of all is the next of the sheet: a starting time carries a step on to the
+// nodes behind it.
 fn keep(e: &[u64], steps: &mut [u64], m: usize, stride: usize, u: u64, end: u64) -> u64
-    requires { ⌜ Shaped (now e) m × (u < end) × (end ≤ mostTime) × Strided (now e) stride m (now steps) ⌝ }
+    requires { ⌜ Shaped (now e) m × (u < end) × (end ≤ mostInstant) × Strided (now e) stride m (now steps) ⌝ }
     requires { ⌜ (0 < u → KeptTo (now e) stride end (u - 1) (now steps) m) ⌝ }
     ensures { λ r. ⌜ KeptTo (now (e .entry)) stride end u (now (steps .exit)) m × SheetStep (now (e .entry)) m u end r ⌝ }
     ensures { λ r. ⌜ length (now (steps .exit)) ≡ length (now (steps .entry)) ⌝ }
 {
-    if u == 0 {
-        return begin_nodes(e, steps, m, stride, u, end);
+    let mut next = end;
+    let mut at: usize = 0;
+    let mut p: usize = 0;
+    while p < m {
+        let step = blocks::keep_node(e, steps, p, at, u, end);
+        next = least::lesser(next, step);
+        at += stride;
+        p += 1;
     }
-    advance_nodes(e, steps, m, stride, u, end)
-}
-
-// Zeros in the first n places.
-fn clear(l: &mut [u64], n: usize)
-    requires { ⌜ n ≤ length (now l) ⌝ }
-    ensures { λ r. ⌜ ((k : ℕ) → k < n → values (now (l .exit)) k ≡ 0) ⌝ }
-    ensures { λ r. ⌜ Behind n (now (l .entry)) (now (l .exit)) ⌝ }
-{
-    let mut k: usize = 0;
-    while k < n {
-        l[k] = 0;
-        k += 1;
-    }
+    next
 }
 
 // The response bounds at the first m nodes, over every instant below the end; whether one passes the horizon, and then zeros. Tried are the first
@@ -155,20 +113,20 @@ pub fn responses(
     stride: usize,
     end: u64,
 ) -> bool
-    requires { ⌜ Shaped (now e) m × (end ≤ mostTime) × Small (now slots) × (nodeSlot m ≤ length (now slots)) × (m ≤ length (now best)) ⌝ }
+    requires { ⌜ Shaped (now e) m × (end ≤ mostInstant) × Small (now slots) × (nodeSlot m ≤ length (now slots)) × (m ≤ length (now best)) ⌝ }
     requires { ⌜ Strided (now e) stride m (now steps) ⌝ }
     ensures { λ r. ⌜ ResponsesAre (now (e .entry)) m end r (now (best .exit)) ⌝ }
-    ensures { λ r. ⌜ Behind m (now (best .entry)) (now (best .exit)) ⌝ }
+    ensures { λ r. ⌜ Inside 0 m (now (best .entry)) (now (best .exit)) ⌝ }
     ensures { λ r. ⌜ Small (now (slots .exit)) × (length (now (slots .exit)) ≡ length (now (slots .entry))) ⌝ }
     ensures { λ r. ⌜ length (now (steps .exit)) ≡ length (now (steps .entry)) ⌝ }
 {
-    clear(slots, m + NODE);
-    clear(best, m);
+    least::fill(slots, m + NODE, 0);
+    least::fill(best, m, 0);
     let mut u: u64 = 0;
     while u < end {
         let next = keep(e, steps, m, stride, u, end);
         if instant(e, slots, steps, best, m, stride, u) {
-            clear(best, m);
+            least::fill(best, m, 0);
             return true;
         }
         u = next;

@@ -1,5 +1,5 @@
 -- Numbers written place by place: those of other places stay. Assumes nothing.
-use mathlib.Core.Path.{_≡_, refl, sym, ap, subst, _∙_}
+use mathlib.Core.Path.{_≡_, sym, ap, subst, _∙_}
 use mathlib.Core.Logic.{inl, inr}
 use mathlib.Core.List.{List}
 use Prim.Native.Nat.{ℕ, _+_, _-_, _*_, _≤_, _<_}
@@ -7,12 +7,12 @@ use native.Mathlib.Nat.{mul-le-mul-right}
 use native.Mathlib.Omega.{arith}
 use lib.ListN.{length, set, length-set}
 use lib.Seq.{getD-set-same, getD-set-other}
-use Rattle.least.specs.Lists.{values}
+use Rattle.least.specs.Lists.{values, Ahead}
 use Rattle.least.proofs.Count.{le-or-lt}
 use Rattle.least.proofs.Ranges.{sum-to-more}
+use Rattle.least.proofs.Stores.{ahead-none, ahead-set, ahead-then}
 use Rattle.rules.specs.Valid.{Valid}
 use Rattle.nets.specs.Nets.{Whole, countIn, roomIn, lengthIn, hopIn, netIn}
-use Rattle.crossings.specs.Pairs.{Ahead}
 use Rattle.ways.specs.Ways.{wayAt, WayFits, WayIs, PlacesAre, WaysAre}
 use Rattle.ways.specs.Whole.{leastOver, lowerOver, sminOver, wayOver, term5Over, baseOver}
 use Rattle.ways.proofs.Whole.{smin-whole, way-whole, base-whole}
@@ -22,14 +22,9 @@ module _ (l : List ℕ) (at x y z : ℕ) where
   abbrev pub wrote : List ℕ
   wrote = set (set (set l at x) (at + 1) y) (at + 2) z
 
-  wrote-length : length wrote ≡ length l
-  wrote-length = simp length-set
-
-  wrote-before : (k : ℕ) → k < at → values wrote k ≡ values l k
-  wrote-before k h =
-      getD-set-other (set (set l at x) (at + 1) y) (at + 2) k z 0 (λ e. omega arith)
-      ∙ getD-set-other (set l at x) (at + 1) k y 0 (λ e. omega arith)
-      ∙ getD-set-other l at k x 0 (λ e. omega arith)
+  wrote-ahead : Ahead at l wrote
+  wrote-ahead =
+      ahead-set at l _ (ahead-set at l _ (ahead-set at l l (ahead-none at l) at x (omega arith)) (at + 1) y (omega arith)) (at + 2) z (omega arith)
 
   module _ (room : at + 2 < length l) where
     wrote-first : values wrote at ≡ x
@@ -75,7 +70,7 @@ module _ (net : List ℕ) where
   pub going-start : (l : List ℕ) (a : ℕ) → Going l l a 0
   going-start l a = record {
     places = record { fit = λ k h. absurd (omega arith); is = λ v k h. absurd (omega arith) };
-    ahead = record { before = λ k h. refl; long = refl };
+    ahead = ahead-none _ l;
   }
 
   -- the sums, with one place more
@@ -119,28 +114,22 @@ module _ (net : List ℕ) where
       base = third ∙ z-is ∙ ap (baseOver net a k) t-is ∙ base-whole net a v here k in-path;
     }
 
-    written : Ahead at l l′
-    written = record { before = wrote-before l at x y z; long = wrote-length l at x y z }
-
     pub going-more : Going l₀ l′ a (k + 1)
     going-more = record {
       places = record { fit = fit; is = is };
-      ahead = record {
-        before = λ j h. wrote-before l at x y z j (omega arith) ∙ going .ahead .before j h;
-        long = wrote-length l at x y z ∙ going .ahead .long;
-      };
+      ahead = ahead-then _ l₀ l (going .ahead) l′ at (omega arith) (wrote-ahead l at x y z);
     }
       where
         fit : (j : ℕ) → j < k + 1 → WayFits net l′ a j
         fit j h = elim (le-or-lt k j) [
           | inl q ↦ subst (WayFits net l′ a) (let s : k ≡ j = omega arith in s) fits-here
-          | inr q ↦ fits-kept at net l l′ written a j (omega arith) (going .places .fit j q)
+          | inr q ↦ fits-kept at net l l′ (wrote-ahead l at x y z) a j (omega arith) (going .places .fit j q)
         ]
 
         is : Valid (netIn net) → (j : ℕ) → j < k + 1 → WayIs net l′ a j
         is v j h = elim (le-or-lt k j) [
           | inl q ↦ subst (WayIs net l′ a) (let s : k ≡ j = omega arith in s) (is-here v)
-          | inr q ↦ is-kept at net l l′ written a j (omega arith) (going .places .is v j q)
+          | inr q ↦ is-kept at net l l′ (wrote-ahead l at x y z) a j (omega arith) (going .places .is v j q)
         ]
 
   pub going-end : {l₀ l : List ℕ} {a k : ℕ} → (m : ℕ) → Going l₀ l a k → m ≡ lengthIn net a → k ≤ m → m ≤ k →

@@ -1,10 +1,11 @@
 // What the formula takes of each place of a flow's path that hangs on no arrival bound: Smin, M, terms 4 to 6; noted once, in lent numbers.
 ghost use mathlib.Core.Path.{_≡_};
-ghost use Prim.Native.Nat.{ℕ, _+_, _-_, _*_, _≤_, _<_};
+ghost use Prim.Native.Nat.{_+_, _-_, _*_, _≤_, _<_};
 ghost use lib.ListN.{length, take};
+ghost use Rattle.least.specs.Lists.{Ahead};
 ghost use Rattle.rules.specs.Valid.{Valid};
 ghost use Rattle.nets.specs.Nets.{few, Whole, countIn, roomIn, lengthIn, hopIn, pathIn, flowIn, netIn};
-ghost use Rattle.crossings.specs.Pairs.{PairsAre, Noted, Ahead};
+ghost use Rattle.crossings.specs.Pairs.{PairsAre, Noted};
 ghost use Rattle.ways.specs.Ways.{baseOf, sminTo, wayTo, wayAt, WaysAre, Known, PlacesAre};
 ghost use Rattle.ways.specs.Whole.{leastBy, leastOver, greatestBy, greatestOver, slowerOf, slowestTo, term4By, term4Over, lowerBy, lowerOver, baseOver};
 

@@ -6,7 +6,7 @@ use Rattle.blocks.specs.Steps.{EntryStep}
 use lib.Seq.{getD-set-same}
 use Rattle.least.proofs.Steps.{step-on}
 use Rattle.blocks.proofs.Steps.{entry-tick}
-use Rattle.blocks.proofs.Kept.{inside-none, inside-set}
+use Rattle.least.proofs.Stores.{inside-none, inside-set}
 use native.Mathlib.Omega.{arith}
 use borrow.Author.Needs.{needs}
 use Rattle.blocks.proofs.advance_entry.Statement.{statement}

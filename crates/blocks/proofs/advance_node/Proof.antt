@@ -1,6 +1,7 @@
 -- `blocks::advance_node` meets its contract.
 use Rattle.least.proofs.Steps.{step-on}
-use Rattle.blocks.proofs.Kept.{inside-none, kept-later}
+use Rattle.least.proofs.Stores.{inside-none}
+use Rattle.blocks.proofs.Kept.{kept-later}
 use native.Mathlib.Omega.{arith}
 use borrow.Author.Needs.{needs}
 use Rattle.blocks.proofs.advance_node.Statement.{statement}

@@ -6,7 +6,8 @@ use Prim.Native.Nat.{_+_, _-_, _*_, _≤_, _<_}
 use Rattle.least.specs.Lists.{values}
 use Rattle.blocks.specs.Sheet.{headSize, entrySize, blockAt, entriesIn}
 use Rattle.blocks.specs.Kept.{keptSize, Looking}
-use Rattle.blocks.proofs.Kept.{inside-set, headed, Entered, entered-none, entered-more, entered-all}
+use Rattle.least.proofs.Stores.{inside-set}
+use Rattle.blocks.proofs.Kept.{headed, Entered, entered-none, entered-more, entered-all}
 use Rattle.blocks.proofs.Terms.{instantTo, begun-none, begun-more, begun-all}
 use borrow.Author.Needs.{needs}
 use native.Mathlib.Omega.{arith}

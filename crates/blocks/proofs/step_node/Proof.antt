@@ -5,7 +5,8 @@ use Prim.Native.Nat.{_+_, _-_, _*_, _≤_}
 use Rattle.least.specs.Lists.{values}
 use Rattle.blocks.specs.Sheet.{headSize, entrySize, blockAt, entriesIn}
 use Rattle.blocks.specs.Kept.{keptSize}
-use Rattle.blocks.proofs.Kept.{inside-none, Entered, entered-none, entered-more, entered-next, entered-looks, entered-all}
+use Rattle.least.proofs.Stores.{inside-none}
+use Rattle.blocks.proofs.Kept.{Entered, entered-none, entered-more, entered-next, entered-looks, entered-all}
 use Rattle.blocks.proofs.Terms.{Gained, gained-none, gained-more, gained-all, gained-small}
 use borrow.Author.Needs.{needs}
 use native.Mathlib.Omega.{arith}

@@ -3,8 +3,10 @@ use Prim.Native.Nat.{ℕ, _-_, _≤_, _<_}
 use native.Mathlib.Omega.{arith}
 use lib.ListN.{length}
 use borrow.Author.Needs.{needs}
-use Rattle.crossings.proofs.Noting.{pair-room, pair-more, ahead-none, ahead-then}
-use Rattle.crossings.specs.Pairs.{pairAt, PairIs, Ahead}
+use Rattle.least.specs.Lists.{Ahead}
+use Rattle.least.proofs.Stores.{ahead-none, ahead-then}
+use Rattle.crossings.proofs.Noting.{pair-room, pair-more}
+use Rattle.crossings.specs.Pairs.{pairAt, PairIs}
 use Rattle.crossings.proofs.note_flow.Statement.{statement}
 use Rattle.crossings.proofs.note_flow.Tie as tie
 

@@ -3,9 +3,10 @@ use mathlib.Core.Path.{_≡_, sym, ap, _∙_, subst}
 use Prim.Native.Nat.{ℕ, _+_, _-_, _≤_, _<_}
 use native.Mathlib.Omega.{arith}
 use borrow.Author.Needs.{needs}
-use Rattle.least.specs.Lists.{values}
-use Rattle.crossings.proofs.Noting.{ahead-set, places-more, place-made}
-use Rattle.crossings.specs.Pairs.{placeOn, Ahead}
+use Rattle.least.specs.Lists.{values, Ahead}
+use Rattle.least.proofs.Stores.{ahead-set}
+use Rattle.crossings.proofs.Noting.{places-more, place-made}
+use Rattle.crossings.specs.Pairs.{placeOn}
 use Rattle.crossings.proofs.note_places.Statement.{statement}
 use Rattle.crossings.proofs.note_places.Tie as tie
 

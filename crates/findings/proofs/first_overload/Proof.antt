@@ -3,7 +3,7 @@ use Prim.Native.Nat.{_-_, _≤_}
 use borrow.Author.Needs.{needs}
 use borrow.Author.Tests.{lt-ltb, le-ltb}
 use Rattle.least.specs.Lists.{values}
-use Rattle.blocks.specs.Sheet.{mostTime}
+use Rattle.starts.specs.Runs.{mostTime}
 use Rattle.findings.specs.Findings.{overloaded, Clear}
 use Rattle.findings.proofs.Firsts.{clear-none, clear-more, first-here, first-none}
 use Rattle.findings.proofs.first_overload.Statement.{statement}

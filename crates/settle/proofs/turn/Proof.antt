@@ -71,7 +71,7 @@ responses-requires c κs =
     let w = c .before .before .before .before .before .before .before .before .before .write in
     let h = c .before .before .before .before .before .before .hops in
     let n = c .before .before .before .before .count in
-    ((subst (Shaped (w .last .1 .1 .1 .1 .0)) (sym (h .ensures .0)) (w .ensures .1 .0), s .pre .2 (s .args .a) (s .pre .0 .one), s .pre .3 .slots-small, omega (arith, h .ensures .1 .0, s .pre .3 .slots-long), omega (arith, h .ensures .1 .0, s .pre .3 .best-long)), steps-fit (s .pre .3) (w .last .1 .1 .1 .1 .0) (h .result) (n .result) (h .ensures .1 .0) (n .ensures .0) (λ p q. w .ensures .1 .1 .1 p (omega (arith, h .ensures .0))))
+    ((subst (Shaped (w .last .1 .1 .1 .1 .0)) (sym (h .ensures .0)) (w .ensures .1 .0), omega (arith, s .pre .2 (s .args .a) (s .pre .0 .one)), s .pre .3 .slots-small, omega (arith, h .ensures .1 .0, s .pre .3 .slots-long), omega (arith, h .ensures .1 .0, s .pre .3 .best-long)), steps-fit (s .pre .3) (w .last .1 .1 .1 .1 .0) (h .result) (n .result) (h .ensures .1 .0) (n .ensures .0) (λ p q. w .ensures .1 .1 .1 p (omega (arith, h .ensures .0))))
 
 same-length : tie.Need-same-length
 same-length c = search needs

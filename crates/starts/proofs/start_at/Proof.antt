@@ -1,7 +1,8 @@
 -- `starts::start_at` meets its contract.
 use Rattle.starts.proofs.Climb.{Climbs, kept-none, kept-set, climbs-more, climbs-at, climbs-past}
 use Rattle.starts.specs.Begins.{Kept}
-use Rattle.blocks.specs.Sheet.{mostTime, instantSlot, added, instantSum}
+use Rattle.blocks.specs.Sheet.{instantSlot, added, instantSum}
+use Rattle.starts.specs.Runs.{mostTime}
 use Rattle.least.specs.Lists.{values}
 use Prim.Native.Nat.{_+_, _-_, _<_}
 use mathlib.Core.Path.{_≡_, refl, sym, ap, _∙_}
