@@ -451,10 +451,12 @@ impl Block {
     fn begin(&self, kept: &mut Kept, u: u64, end: u64) -> u64 {
         let mut next = end;
         kept.sum = self.base;
-        kept.looking = self.entries[..self.count].iter().any(|e| e.look != INSTANT);
+        kept.looking = false;
         for (step, e) in kept.steps.iter_mut().zip(&self.entries[..self.count]) {
             if e.look == INSTANT {
                 kept.sum += term(e, u);
+            } else {
+                kept.looking = true;
             }
             *step = step_after(e, u, end);
             next = next.min(*step);
@@ -494,9 +496,10 @@ impl Block {
         kept: &Kept,
         v: &mut [u64; SLOTS],
         p: usize,
+        u: u64,
         counts: &mut Counts,
     ) -> Option<u64> {
-        let last = HORIZON + v[INSTANT];
+        let last = HORIZON + u;
         let mut w = v[p];
         while w + self.added <= last {
             counts.sums += 1;
@@ -528,7 +531,7 @@ fn responses(sheet: &[Block], busy: u64, walk: Walk, counts: &mut Counts) -> Opt
         }
         v[INSTANT] = u;
         for (p, block) in sheet.iter().enumerate() {
-            let w = block.start(&kept[p], &mut v, p, counts)?;
+            let w = block.start(&kept[p], &mut v, p, u, counts)?;
             v[p] = w;
             best[p] = best[p].max((w + block.added).saturating_sub(u));
         }

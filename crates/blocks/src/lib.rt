@@ -120,23 +120,6 @@ pub fn sum_at(e: &[u64], v: &[u64], p: usize, kept: u64, looks: u64) -> u64
     sum_looking(e, v, p, kept)
 }
 
-// Whether a count of node p looks at a starting time, as a number.
-fn looks_in(e: &[u64], p: usize) -> u64
-    requires { ⌜ Shaped (now e) (p + 1) ⌝ }
-    ensures { λ r. ⌜ Looking (now (e .entry)) p r ⌝ }
-{
-    let at = block_at(e, p);
-    let n = e[at + 2] as usize;
-    let mut q: usize = 0;
-    while q < n {
-        if e[at + HEAD + q * ENTRY] as usize != INSTANT {
-            return 1;
-        }
-        q += 1;
-    }
-    0
-}
-
 // The first instant after u at which count(u + a − b, T) steps up; the end, if there is none before it.
 fn step_after(a: u64, b: u64, t: u64, u: u64, end: u64) -> u64
     requires { ⌜ (u < end) × (end < 16777216) × (a < 16777216) × (t < 16777216) ⌝ }
@@ -170,6 +153,18 @@ fn entry_step(e: &[u64], k: usize, u: u64, end: u64) -> u64
     step_after(plus, less, period, u, end)
 }
 
+// Whether the entry at k looks at a starting time, or one before it does, as a number.
+fn looking(e: &[u64], k: usize, looks: u64) -> u64
+    requires { ⌜ (k < length (now e)) × (length (now e) ≤ 16777216) ⌝ }
+    ensures { λ r. ⌜ (r ≡ 0 → (looks ≡ 0) × (values (now (e .entry)) k ≡ instantSlot)) ⌝ }
+{
+    let look = e[k] as usize;
+    if look == INSTANT {
+        return looks;
+    }
+    1
+}
+
 // Keeps at a place what of the sum at node p hangs on the instant alone, its next step after u, and behind these each entry's; gives the node's.
 fn begin_node(e: &[u64], steps: &mut [u64], p: usize, at: usize, u: u64, end: u64) -> u64
     requires { ⌜ Shaped (now e) (p + 1) × (u < end) × (end ≤ mostInstant) × (at + keptSize + entriesIn (now e) p ≤ length (now steps)) × (length (now steps) ≤ 16777216) ⌝ }
@@ -180,18 +175,20 @@ fn begin_node(e: &[u64], steps: &mut [u64], p: usize, at: usize, u: u64, end: u6
     let n = e[block + 2] as usize;
     let mut sum = e[block];
     let mut next = end;
+    let mut looks: u64 = 0;
     let mut q: usize = 0;
     while q < n {
         let k = block + HEAD + q * ENTRY;
         let step = entry_step(e, k, u, end);
         steps[at + KEPT + q] = step;
+        looks = looking(e, k, looks);
         sum += instant_term(e, k, u);
         next = least::lesser(next, step);
         q += 1;
     }
     steps[at] = sum;
     steps[at + 1] = next;
-    steps[at + 2] = looks_in(e, p);
+    steps[at + 2] = looks;
     next
 }
 

@@ -8,7 +8,7 @@ use lib.Seq.{getD-set-same, getD-set-other}
 use borrow.Author.Count.{below-more}
 use Rattle.least.specs.Lists.{values, Inside}
 use Rattle.least.proofs.Stores.{set-cases, inside-none, inside-more}
-use Rattle.least.specs.Fixed.{Least, Under}
+use Rattle.least.specs.Fixed.{Under}
 use Rattle.blocks.specs.Sheet.{mostInstant, instantSlot, nodeSlot, added, sums, Small, Fit}
 use Rattle.starts.specs.Begins.{BeginIs, BeginFits, Kept}
 use Rattle.starts.specs.Runs.{mostTime, StartsOf, prior, LowTo, AtNode, PastAt}
@@ -92,33 +92,29 @@ module _ (e : List ℕ) (m u : ℕ) where
       earlier : (l : ℕ) → l < p → nodes slots l ≡ W u l
       earlier l h = going .passed W starts first .found l h .start
 
-      under : Under (sums e (values slots instantSlot) p (nodes slots)) (nodes slots p)
+      under : Under (sums e u p (nodes slots)) (nodes slots p)
       under =
-          subst (Under (sums e (values slots instantSlot) p (nodes slots))) (sym (going .passed W starts first .left p (omega arith) on))
-          (subst (λ v. Under (sums e v p (nodes slots)) (prior W u p)) (sym (going .time)) (from-under e m fit W starts u p on (nodes slots) earlier))
+          subst (Under (sums e u p (nodes slots))) (sym (going .passed W starts first .left p (omega arith) on))
+          (from-under e m fit W starts u p on (nodes slots) earlier)
 
-      found-sum : sums e (values slots instantSlot) p (nodes slots) (W u p) ≤ W u p
-      found-sum =
-          subst (λ v. sums e v p (nodes slots) (W u p) ≤ W u p) (sym (going .time))
-          (omega (arith, sums-same e m fit u p on (nodes slots) (W u) earlier (W u p), starts u p on .fixed))
+      found-sum : sums e u p (nodes slots) (W u p) ≤ W u p
+      found-sum = omega (arith, sums-same e m fit u p on (nodes slots) (W u) earlier (W u p), starts u p on .fixed)
 
     -- what start_at gives at p
-    module _ (r : Begin)
-        (begin : Under (sums e (values slots instantSlot) p (nodes slots)) (nodes slots p) → BeginIs e (values slots instantSlot) p (nodes slots) r) where
+    module _ (r : Begin) (begin : Under (sums e u p (nodes slots)) (nodes slots p) → BeginIs e u p (nodes slots) r) where
       pub going-past : r ≡ Past → (W : ℕ → ℕ → ℕ) → StartsOf e m W → Priors W m u slots₀ → PastAt e m W u
       going-past is W starts first =
-          let past = subst (BeginIs e (values slots instantSlot) p (nodes slots)) is (begin (under W starts first)) in
-          record { node = p; on = on; past = omega (arith, going .time, past (W u p) (found-sum W starts first)) }
+          let past = subst (BeginIs e u p (nodes slots)) is (begin (under W starts first)) in
+          record { node = p; on = on; past = past (W u p) (found-sum W starts first) }
 
-      module _ (fits : BeginFits e (values slots instantSlot) p r) (w : ℕ) (at : r ≡ At w) where
+      module _ (fits : BeginFits e u p r) (w : ℕ) (at : r ≡ At w) where
         pub begin-small : w + added e p ≤ mostTime + u
-        begin-small = omega (arith, going .time, subst (BeginFits e (values slots instantSlot) p) at fits)
+        begin-small = subst (BeginFits e u p) at fits
 
         start : (W : ℕ → ℕ → ℕ) → StartsOf e m W → Priors W m u slots₀ → w ≡ W u p
         start W starts first =
             start-found e m fit W starts u p w on (nodes slots) (earlier W starts first)
-            (subst (λ v. Least (sums e v p (nodes slots)) w) (going .time)
-            (subst (BeginIs e (values slots instantSlot) p (nodes slots)) at (begin (under W starts first))))
+            (subst (BeginIs e u p (nodes slots)) at (begin (under W starts first)))
 
         module _ (slots′ : List ℕ) (kept : Kept slots slots′) (b : ℕ) (is : b ≡ max (values best p) (w + added e p - u)) (short : u ≤ mostInstant) where
           now : Going e m u slots₀ best₀ slots′ best p

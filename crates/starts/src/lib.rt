@@ -24,16 +24,16 @@ enum Begin {
     Past,
 }
 
-// The starting time at node p, upwards from a value that is not above it.
-fn start_at(e: &[u64], v: &mut [u64], p: usize, kept: u64, looks: u64, from: u64) -> Begin
-    requires { ⌜ Shaped (now e) (p + 1) × Small (now v) × (nodeSlot p < length (now v)) × (values (now v) instantSlot ≤ mostInstant) × (kept ≡ instantSum (now e) p (values (now v) instantSlot)) × Looking (now e) p looks × (from < 16777216) ⌝ }
-    ensures { λ r. ⌜ (Under (sums (now (e .entry)) (values (now (v .entry)) instantSlot) p (λ q. values (now (v .entry)) (nodeSlot q))) from → BeginIs (now (e .entry)) (values (now (v .entry)) instantSlot) p (λ q. values (now (v .entry)) (nodeSlot q)) r) ⌝ }
-    ensures { λ r. ⌜ BeginFits (now (e .entry)) (values (now (v .entry)) instantSlot) p r ⌝ }
+// The starting time at node p and the instant u, upwards from a value that is not above it.
+fn start_at(e: &[u64], v: &mut [u64], p: usize, u: u64, kept: u64, looks: u64, from: u64) -> Begin
+    requires { ⌜ Shaped (now e) (p + 1) × Small (now v) × (nodeSlot p < length (now v)) × (values (now v) instantSlot ≡ u) × (u ≤ mostInstant) × (kept ≡ instantSum (now e) p u) × Looking (now e) p looks × (from < 16777216) ⌝ }
+    ensures { λ r. ⌜ (Under (sums (now (e .entry)) u p (λ q. values (now (v .entry)) (nodeSlot q))) from → BeginIs (now (e .entry)) u p (λ q. values (now (v .entry)) (nodeSlot q)) r) ⌝ }
+    ensures { λ r. ⌜ BeginFits (now (e .entry)) u p r ⌝ }
     ensures { λ r. ⌜ Kept (now (v .entry)) (now (v .exit)) ⌝ }
 {
     let at = blocks::block_at(e, p);
     let add = e[at + 1];
-    let last = HORIZON + v[INSTANT];
+    let last = HORIZON + u;
     let mut w = from;
     while w + add <= last {
         v[HERE] = w;
@@ -68,7 +68,7 @@ fn instant(
     let mut p: usize = 0;
     while p < m {
         let from = slots[p + NODE];
-        let Begin::At(w) = start_at(e, slots, p, steps[at], steps[at + 2], from) else {
+        let Begin::At(w) = start_at(e, slots, p, u, steps[at], steps[at + 2], from) else {
             return true;
         };
         slots[p + NODE] = w;

@@ -2,13 +2,14 @@
 use lib.Seq.{getD-set-same}
 use lib.ListN.{set, length-set}
 use mathlib.Core.Path.{_≡_, sym, ap, subst}
-use Prim.Native.Nat.{_+_, _-_, _*_, _≤_, _<_}
+use Prim.Native.Nat.{ℕ, _+_, _-_, _*_, _≤_, _<_}
 use Rattle.least.specs.Lists.{values}
-use Rattle.blocks.specs.Sheet.{headSize, entrySize, blockAt, entriesIn}
+use Rattle.blocks.specs.Sheet.{headSize, entrySize, instantSlot, blockAt, entriesIn, entryAt}
 use Rattle.blocks.specs.Kept.{keptSize, Looking}
 use Rattle.least.proofs.Stores.{inside-set}
 use Rattle.blocks.proofs.Kept.{headed, Entered, entered-none, entered-more, entered-all}
 use Rattle.blocks.proofs.Terms.{instantTo, begun-none, begun-more, begun-all}
+use borrow.Author.Count.{below-more}
 use borrow.Author.Needs.{needs}
 use native.Mathlib.Omega.{arith}
 use Rattle.blocks.proofs.begin_node.Statement.{statement}
@@ -19,13 +20,13 @@ use Rattle.least.proofs.lesser.Reads as lesser-reads
 use Rattle.blocks.proofs.block_at.Reads as block-at-reads
 use Rattle.blocks.proofs.entry_step.Reads as entry-step-reads
 use Rattle.blocks.proofs.instant_term.Reads as instant-term-reads
-use Rattle.blocks.proofs.looks_in.Reads as looks-in-reads
+use Rattle.blocks.proofs.looking.Reads as looking-reads
 
 abbrev Inv-loop : tie.InvT-loop
-Inv-loop e steps₀ p at u end block n sum₀ next₀ q₀ steps sum next q = (q ≤ n) × (block ≡ blockAt e p) × (n ≡ entriesIn e p) × (sum ≡ values e (blockAt e p) + instantTo e p u q) × (sum < 16777216 + 562949953421312 * q) × Entered e end u p at steps₀ steps next q
+Inv-loop e steps₀ p at u end block n sum₀ next₀ looks₀ q₀ steps sum next looks q = (q ≤ n) × (block ≡ blockAt e p) × (n ≡ entriesIn e p) × (sum ≡ values e (blockAt e p) + instantTo e p u q) × (sum < 16777216 + 562949953421312 * q) × Entered e end u p at steps₀ steps next q × (looks ≡ 0 → (i : ℕ) → i < q → values e (entryAt e p i) ≡ instantSlot)
 
 abbrev μ-loop : tie.MeasureT-loop
-μ-loop e steps₀ p at u end block n sum₀ next₀ q₀ steps sum next q = n - q
+μ-loop e steps₀ p at u end block n sum₀ next₀ looks₀ q₀ steps sum next looks q = n - q
 
 block-at-requires : tie.Need-block-at-requires Inv-loop μ-loop
 block-at-requires c κs = search needs
@@ -50,7 +51,7 @@ loop-holds c =
     let s = c .before .before .before .before .before in
     let a = s .args in
     let b = c .before .before .block-at in
-    (omega arith, b .ensures .0, ap (λ x. values (a .e .now) (x + 2)) (b .ensures .0), begun-none (a .e .now) (a .p) (a .u) (b .result) (b .ensures .0), s .pre .0 .small (b .result), entered-none (a .e .now) (a .end) (a .u) (a .p) (a .at) (a .steps .now) (omega arith))
+    (omega arith, b .ensures .0, ap (λ x. values (a .e .now) (x + 2)) (b .ensures .0), begun-none (a .e .now) (a .p) (a .u) (b .result) (b .ensures .0), s .pre .0 .small (b .result), entered-none (a .e .now) (a .end) (a .u) (a .p) (a .at) (a .steps .now) (omega arith), λ z i h. absurd (omega arith))
 
 add-k : tie.Need-add-k Inv-loop μ-loop
 add-k c = search needs
@@ -78,9 +79,12 @@ mul-steps c = search needs
 slice-write-steps : tie.Need-slice-write-steps Inv-loop μ-loop
 slice-write-steps c = search needs
 
+looking-requires : tie.Need-looking-requires Inv-loop μ-loop
+looking-requires c κs = search needs
+
 instant-term-requires : tie.Need-instant-term-requires Inv-loop μ-loop
 instant-term-requires c κs =
-    let s = c .before .before .before .before .before .before .before .before in
+    let s = c .before .before .before .before .before .before .before .before .before in
     (omega arith, s .pre .0 .short, s .pre .0 .small, omega arith)
 
 add-sum : tie.Need-add-sum Inv-loop μ-loop
@@ -97,12 +101,13 @@ loop-less c = search needs
 
 loop-again : tie.Need-loop-again Inv-loop μ-loop
 loop-again c =
-    let a = c .before .before .before .before .before .before .before .before .before .before .args in
-    let l = c .before .before .before .before .loop in
-    let s = c .before .before .entry-step in
+    let a = c .before .before .before .before .before .before .before .before .before .before .before .args in
+    let l = c .before .before .before .before .before .loop in
+    let s = c .before .before .before .entry-step in
+    let k = c .before .before .looking in
     let t = c .before .instant-term in
     let place = ap (λ b. b + headSize + l .q * entrySize) (l .inv .1) in
-    (omega arith, l .inv .1, l .inv .2, begun-more (a .e .now) (a .p) (a .u) (l .q) (l .sum) (t .result) _ place (l .inv .3) (t .ensures .0), omega arith, entered-more (a .e .now) (a .end) (a .u) (a .p) (a .at) (a .steps .now) (l .steps) (l .next) (l .q) (l .inv .5) (set (l .steps) (a .at + keptSize + l .q) (s .result)) (s .result) (c .lesser .result) _ place (inside-set (l .steps) (a .at + keptSize + l .q) (s .result)) (getD-set-same (l .steps) (a .at + keptSize + l .q) (s .result) 0 (omega (arith, l .inv .5 .inside .long))) (s .ensures) (c .lesser .ensures))
+    (omega arith, l .inv .1, l .inv .2, begun-more (a .e .now) (a .p) (a .u) (l .q) (l .sum) (t .result) _ place (l .inv .3) (t .ensures .0), omega arith, entered-more (a .e .now) (a .end) (a .u) (a .p) (a .at) (a .steps .now) (l .steps) (l .next) (l .q) (l .inv .5) (set (l .steps) (a .at + keptSize + l .q) (s .result)) (s .result) (c .lesser .result) _ place (inside-set (l .steps) (a .at + keptSize + l .q) (s .result)) (getD-set-same (l .steps) (a .at + keptSize + l .q) (s .result) 0 (omega (arith, l .inv .5 .inside .long))) (s .ensures) (c .lesser .ensures), λ z. below-more (λ i. values (a .e .now) (entryAt (a .e .now) (a .p) i) ≡ instantSlot) (l .q) (l .inv .6 (k .ensures z .0)) (omega (arith, ap (values (a .e .now)) place, k .ensures z .1)))
 
 mul-steps-2 : tie.Need-mul-steps-2 Inv-loop μ-loop
 mul-steps-2 c = search needs
@@ -119,9 +124,6 @@ mul-steps-3 c = search needs
 slice-write-steps-3 : tie.Need-slice-write-steps-3 Inv-loop μ-loop
 slice-write-steps-3 c = let l = c .before .loop in simp length-set (omega (arith, l .inv .5 .inside .long))
 
-looks-in-requires : tie.Need-looks-in-requires Inv-loop μ-loop
-looks-in-requires c κs = search needs
-
 add-steps-4 : tie.Need-add-steps-4 Inv-loop μ-loop
 add-steps-4 c = search needs
 
@@ -129,20 +131,19 @@ mul-steps-4 : tie.Need-mul-steps-4 Inv-loop μ-loop
 mul-steps-4 c = search needs
 
 slice-write-steps-4 : tie.Need-slice-write-steps-4 Inv-loop μ-loop
-slice-write-steps-4 c = let l = c .before .before .loop in simp length-set (omega (arith, l .inv .5 .inside .long))
+slice-write-steps-4 c = let l = c .before .loop in simp length-set (omega (arith, l .inv .5 .inside .long))
 
 same-length : tie.Need-same-length Inv-loop μ-loop
-same-length c = let l = c .before .before .loop in simp length-set (l .inv .5 .inside .long)
+same-length c = let l = c .before .loop in simp length-set (l .inv .5 .inside .long)
 
 returns : tie.Need-returns Inv-loop μ-loop
 returns c =
-    let a = c .before .before .before .before .before .before .before .before .args in
-    let l = c .before .before .loop in
-    let n = c .looks-in in
+    let a = c .before .before .before .before .before .before .before .args in
+    let l = c .before .loop in
     let steps = headed (l .steps) (a .at) (l .sum) (l .next) in
-    entered-all (a .e .now) (a .end) (a .u) (a .p) (a .at) (a .steps .now) (l .steps) (l .next) (l .q) (l .inv .5) (l .sum) _ (inside-set steps (a .at + 2) (n .result)) (omega arith)
+    entered-all (a .e .now) (a .end) (a .u) (a .p) (a .at) (a .steps .now) (l .steps) (l .next) (l .q) (l .inv .5) (l .sum) _ (inside-set steps (a .at + 2) (l .looks)) (omega arith)
     (begun-all (a .e .now) (a .p) (a .u) (l .q) (l .sum) (l .inv .3) (omega arith))
-    (subst (Looking (a .e .now) (a .p)) (sym (getD-set-same steps (a .at + 2) (n .result) 0 (simp length-set (omega (arith, l .inv .5 .inside .long))))) (n .ensures)) (omega arith)
+    (subst (Looking (a .e .now) (a .p)) (sym (getD-set-same steps (a .at + 2) (l .looks) 0 (simp length-set (omega (arith, l .inv .5 .inside .long))))) (λ z q h. l .inv .6 z q (omega arith))) (omega arith)
 
 pub begin-node-spec : {M : Type 1} → statement M
 begin-node-spec =
@@ -165,6 +166,7 @@ begin-node-spec =
     add-steps-2
     mul-steps
     slice-write-steps
+    looking-requires
     instant-term-requires
     add-sum
     lesser-requires
@@ -176,7 +178,6 @@ begin-node-spec =
     add-steps-3
     mul-steps-3
     slice-write-steps-3
-    looks-in-requires
     add-steps-4
     mul-steps-4
     slice-write-steps-4

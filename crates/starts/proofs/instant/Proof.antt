@@ -5,7 +5,7 @@ use Rattle.starts.proofs.Kept.{strided-room, shaped-less}
 use mathlib.Core.Path.{_≡_, sym, ap, _∙_, subst}
 use lib.ListN.{length-set}
 use Rattle.least.specs.Lists.{values}
-use Rattle.blocks.specs.Sheet.{nodeSlot, instantSum}
+use Rattle.blocks.specs.Sheet.{nodeSlot}
 use Rattle.blocks.specs.Kept.{Looking}
 use borrow.Author.Needs.{needs}
 use native.Mathlib.Omega.{arith}
@@ -76,7 +76,7 @@ start-at-requires c κs =
     let a = c .before .before .before .before .before .before .before .before .before .before in
     let l = c .before .before .before .before .before .loop in
     let h = a .pre .1 .1 (l .p) (omega arith) in
-    (shaped-less (omega arith) (a .pre .0 .0), l .inv .0 .small, omega (arith, l .inv .0 .room), omega (arith, l .inv .0 .time, a .pre .0 .1), ap (values (a .args .steps .now)) (l .inv .1) ∙ h .0 ∙ ap (instantSum (a .args .e .now) (l .p)) (sym (l .inv .0 .time)), subst (λ x. Looking (a .args .e .now) (l .p) (values (a .args .steps .now) (x + 2))) (sym (l .inv .1)) (h .1), l .inv .0 .small (nodeSlot (l .p)))
+    (shaped-less (omega arith) (a .pre .0 .0), l .inv .0 .small, omega (arith, l .inv .0 .room), l .inv .0 .time, a .pre .0 .1, ap (values (a .args .steps .now)) (l .inv .1) ∙ h .0, subst (λ x. Looking (a .args .e .now) (l .p) (values (a .args .steps .now) (x + 2))) (sym (l .inv .1)) (h .1), l .inv .0 .small (nodeSlot (l .p)))
 
 enum-known-w : tie.Need-enum-known-w Inv-loop μ-loop
 enum-known-w c = search needs
