@@ -19,7 +19,7 @@ use Rattle.nets.proofs.Reading.{flows-length, flow-at}
 use Rattle.nets.proofs.Sets.{flow-here, one-flow, own-role}
 use Rattle.sheets.specs.Fields.{placeIn}
 use Rattle.sheets.proofs.Places.{place-at}
-use Rattle.settle.specs.Reading.{equal, readsOf, readsOwn, readsFlow, Unread}
+use Rattle.rounds.specs.Reading.{equal, readsOf, readsOwn, readsFlow, Unread}
 
 -- a crossing of i that weighs is that of a flow of the net which crosses i
 module _ (N : Net) (i : Flow) where

@@ -16,7 +16,8 @@ use Rattle.rules.specs.Ready.{Ready}
 use Rattle.nets.specs.Nets.{countIn, roomIn, netIn}
 use Rattle.nets.proofs.Reading.{flows-length}
 use Rattle.settle.specs.Good.{Good}
-use Rattle.settle.specs.Turns.{ChosenIs, Fair, BusiesAre, Keeps, TurnIs, SettleIs}
+use Rattle.rounds.specs.Rounds.{ChosenIs}
+use Rattle.settle.specs.Turns.{Fair, BusiesAre, Keeps, TurnIs, SettleIs}
 use Rattle.settle.proofs.Steps.{good-start, good-end}
 
 -- each number of l was set to x

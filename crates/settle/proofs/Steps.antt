@@ -29,7 +29,7 @@ use Rattle.nets.proofs.Places.{visits-at, position-below, position-node, positi
 use Rattle.nets.proofs.Sets.{flow-here}
 use Rattle.sheets.specs.Fields.{responsesIn}
 use Rattle.sheets.proofs.Places.{place-at}
-use Rattle.settle.specs.Reading.{Unread}
+use Rattle.rounds.specs.Reading.{Unread}
 use Rattle.settle.specs.Good.{arrivalsIn, held, due, Good, Rests}
 
 pub member-place : {A : Type 0} {x : A} {l : List A} (d : A) → List·Memᴰ x l → (k : ℕ) × (k < length l) × (getD l k d ≡ x)

@@ -26,9 +26,10 @@ use Rattle.starts.specs.Runs.{mostTime, ResponsesAre}
 use Rattle.least.proofs.Stores.{set-cases}
 use Rattle.sheets.specs.Fields.{SheetIs}
 use Rattle.sheets.proofs.Whole.{responded, responded-past}
-use Rattle.settle.specs.Reading.{readsFlow, Unread}
+use Rattle.rounds.specs.Reading.{readsFlow, Unread}
 use Rattle.settle.specs.Good.{due}
-use Rattle.settle.specs.Turns.{total, RaisedIs, MarkedIs, Fair, left, BusiesAre, TurnIs}
+use Rattle.rounds.specs.Rounds.{RaisedIs, MarkedIs}
+use Rattle.settle.specs.Turns.{total, Fair, left, BusiesAre, TurnIs}
 use Rattle.settle.proofs.Reading.{unread-is}
 use Rattle.settle.proofs.Steps.{good-past, good-still, good-raised}
 

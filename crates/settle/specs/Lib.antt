@@ -1,4 +1,3 @@
 -- The definitions of `settle`.
-pub mod Reading
 pub mod Good
 pub mod Turns

@@ -3,7 +3,7 @@ use mathlib.Core.Path.{_≡_}
 use mathlib.Core.Bool.{Bool, true, false}
 use mathlib.Core.Logic.{_⊎_}
 use mathlib.Core.List.{List}
-use Prim.Native.Nat.{ℕ, _+_, _-_, _*_, _≤_, _<_, max}
+use Prim.Native.Nat.{ℕ, _+_, _-_, _*_, _≤_, _<_}
 use lib.ListN.{length}
 use Rattle.least.specs.Count.{pick}
 use Rattle.least.specs.Fold.{sumTo}
@@ -16,39 +16,12 @@ use Rattle.rules.specs.Judge.{busyLength}
 use Rattle.rules.specs.Ready.{Ready}
 use Rattle.nets.specs.Nets.{countIn, roomIn, lengthIn, flowIn, netIn}
 use Rattle.blocks.specs.Sheet.{Small}
-use Rattle.starts.specs.Runs.{mostTime}
-use Rattle.settle.specs.Reading.{readsFlow}
+use Rattle.starts.specs.Runs.{mostTime, Low}
 use Rattle.settle.specs.Good.{held, Good, Outcome}
-
--- response bounds within the horizon
-abbrev pub Low : List ℕ → Type 0
-Low l = (k : ℕ) → values l k ≤ mostTime
 
 -- all response bounds together, at that many places
 abbrev pub total : ℕ → List ℕ → ℕ
 total size replies = sumTo size (values replies)
-
--- those at m places raised to best, the others as they were; rose tells whether one rose
-pub record RaisedIs (replies best : List ℕ) (at m : ℕ) (replies′ : List ℕ) (rose : ℕ) : Type 0 where
-  pub inside : (k : ℕ) → k < m → values replies′ (at + k) ≡ max (values replies (at + k)) (values best k)
-  pub outside : (x : ℕ) → (x < at) ⊎ (at + m ≤ x) → values replies′ x ≡ values replies x
-  pub still : rose ≡ 0 → (k : ℕ) → k < m → values best k ≤ values replies (at + k)
-  pub risen : (rose ≡ 0 → ⊥) → (k : ℕ) × (k < m) × (values replies (at + k) < values best k)
-  pub low : Low replies′
-  pub long : length replies′ ≡ length replies
-
--- of the flows below n: marked if it reads flow a, otherwise as it was; the others as they were
-pub record MarkedIs (marks net : List ℕ) (a n : ℕ) (marks′ : List ℕ) : Type 0 where
-  pub unread : (b : ℕ) → b < n → readsFlow net b a ≡ false → values marks′ b ≡ values marks b
-  pub read : (b : ℕ) → b < n → readsFlow net b a ≡ true → values marks′ b ≡ 1
-  pub rest : (b : ℕ) → n ≤ b → values marks′ b ≡ values marks b
-  pub long : length marks′ ≡ length marks
-
--- among the flows below m: a marked one, or n if none is
-pub record ChosenIs (marks : List ℕ) (n m r : ℕ) : Type 0 where
-  pub most : r ≤ n
-  pub marked : r < n → values marks r ≡ 0 → ⊥
-  pub none : n ≤ r → (b : ℕ) → b < m → values marks b ≡ 0
 
 -- what is lent has room
 pub record Room (net busies replies marks sheet slots steps best : List ℕ) : Type 0 where

@@ -1,157 +1,13 @@
 // The least settled arrival bounds: response bounds raised from zero, flow by flow, until each is up to date. What is worked on is lent.
 ghost use mathlib.Core.Path.{_≡_};
-ghost use mathlib.Core.Bool.{true, false};
-ghost use Prim.Native.Nat.{ℕ, _+_, _*_, _<_, _≤_};
+ghost use Prim.Native.Nat.{ℕ, _+_, _*_, _<_};
 ghost use lib.ListN.{length};
 ghost use Rattle.least.specs.Lists.{values};
-ghost use Rattle.nets.specs.Nets.{few, Whole, countIn, flowIn};
+ghost use Rattle.nets.specs.Nets.{countIn};
 ghost use Rattle.crossings.specs.Pairs.{PairsAre, Noted};
 ghost use Rattle.ways.specs.Ways.{WaysAre};
 ghost use Rattle.starts.specs.Runs.{LowTo};
-ghost use Rattle.settle.specs.Reading.{meetsEqual, readsFlow, readsOwn};
-ghost use Rattle.settle.specs.Turns.{Low, RaisedIs, MarkedIs, ChosenIs, Room, Fair, TurnIs, SettleIs};
-
-fn above(a: u64, b: u64) -> u64
-    ensures { λ r. ⌜ (b ≤ a → r ≡ 0) × (a < b → r ≡ 1) × (r ≤ 1) ⌝ }
-{
-    if a < b {
-        return 1;
-    }
-    0
-}
-
-// The response bounds of a flow, at m places from that one on, raised to best; 0 if none rose.
-fn raise(replies: &mut [u64], best: &[u64], at: usize, m: usize) -> u64
-    requires { ⌜ (at ≤ 4000) × (m ≤ few) × (at + m ≤ length (now replies)) × (m ≤ length (now best)) × Low (now replies) × LowTo m (now best) ⌝ }
-    ensures { λ r. ⌜ RaisedIs (now (replies .entry)) (now (best .entry)) at m (now (replies .exit)) r ⌝ }
-{
-    let mut rose: u64 = 0;
-    let mut k: usize = 0;
-    while k < m {
-        let was = replies[at + k];
-        let now = best[k];
-        rose = least::greater(rose, above(was, now));
-        replies[at + k] = least::greater(was, now);
-        k += 1;
-    }
-    rose
-}
-
-fn meets_equal(net: &[u16], pairs: &[u8], a: usize, b: usize) -> bool
-    requires { ⌜ Noted (now net) (now pairs) a b ⌝ }
-    ensures { λ r. ⌜ r ≡ meetsEqual (flowIn (now (net .entry)) a) (flowIn (now (net .entry)) b) ⌝ }
-{
-    if crossings::side(net, pairs, a, b) == crossings::EQUAL {
-        return crossings::meet(net, pairs, a, b);
-    }
-    false
-}
-
-// Whether flow a reads its own arrival bounds: for an equal flow that it meets.
-fn reads_own(net: &[u16], pairs: &[u8], a: usize) -> bool
-    requires { ⌜ Noted (now net) (now pairs) a a ⌝ }
-    ensures { λ r. ⌜ r ≡ readsOwn (now (net .entry)) a ⌝ }
-{
-    let n = nets::count(net);
-    let mut b: usize = 0;
-    while b < n {
-        if meets_equal(net, pairs, a, b) {
-            return true;
-        }
-        b += 1;
-    }
-    false
-}
-
-// Whether flow b reads the arrival bounds of flow a: of a higher or equal flow that it meets.
-fn reads(net: &[u16], pairs: &[u8], b: usize, a: usize) -> bool
-    requires { ⌜ Noted (now net) (now pairs) b a ⌝ }
-    ensures { λ r. ⌜ r ≡ readsFlow (now (net .entry)) b a ⌝ }
-{
-    if b == a {
-        return reads_own(net, pairs, a);
-    }
-    let side = crossings::side(net, pairs, b, a);
-    if side == crossings::OWN {
-        return false;
-    }
-    if side == crossings::LOWER {
-        return false;
-    }
-    crossings::meet(net, pairs, b, a)
-}
-
-fn marked(mark: u64, read: bool) -> u64
-    ensures { λ r. ⌜ (read ≡ false → r ≡ mark) × (read ≡ true → r ≡ 1) ⌝ }
-{
-    if read {
-        return 1;
-    }
-    mark
-}
-
-// A mark for each flow that reads flow a.
-fn mark(net: &[u16], pairs: &[u8], marks: &mut [u64], a: usize)
-    requires { ⌜ Noted (now net) (now pairs) a a × (countIn (now net) ≤ length (now marks)) ⌝ }
-    ensures { λ r. ⌜ MarkedIs (now (marks .entry)) (now (net .entry)) a (countIn (now (net .entry))) (now (marks .exit)) ⌝ }
-{
-    let n = nets::count(net);
-    let mut b: usize = 0;
-    while b < n {
-        let read = reads(net, pairs, b, a);
-        marks[b] = marked(marks[b], read);
-        b += 1;
-    }
-}
-
-// Whether b, which is after chosen, comes before it in the round that begins after last.
-fn comes_next(last: usize, chosen: usize, b: usize) -> bool {
-    if last < chosen {
-        return false;
-    }
-    last < b
-}
-
-// Flow b, if it is marked and more urgent than the one chosen, or as urgent and next in the round; n stands for none.
-fn prefer(net: &[u16], marks: &[u64], last: usize, chosen: usize, b: usize, n: usize) -> usize
-    requires { ⌜ Whole (now net) × (n ≡ countIn (now net)) × (n ≤ length (now marks)) × (b < n) × (chosen ≤ n) ⌝ }
-    ensures { λ r. ⌜ (ChosenIs (now (marks .entry)) n b chosen → ChosenIs (now (marks .entry)) n (b + 1) r) ⌝ }
-    ensures { λ r. ⌜ r ≤ n ⌝ }
-{
-    if marks[b] == 0 {
-        return chosen;
-    }
-    if n <= chosen {
-        return b;
-    }
-    let old = nets::priority(net, chosen);
-    let new = nets::priority(net, b);
-    if old < new {
-        return b;
-    }
-    if new < old {
-        return chosen;
-    }
-    if comes_next(last, chosen, b) {
-        return b;
-    }
-    chosen
-}
-
-// A marked flow of greatest priority, of several the next after last, so that each gets its turn; as many as there are if none is marked.
-fn choose(net: &[u16], marks: &[u64], last: usize) -> usize
-    requires { ⌜ Whole (now net) × (countIn (now net) ≤ length (now marks)) ⌝ }
-    ensures { λ r. ⌜ ChosenIs (now (marks .entry)) (countIn (now (net .entry))) (countIn (now (net .entry))) r ⌝ }
-{
-    let n = nets::count(net);
-    let mut chosen = n;
-    let mut b: usize = 0;
-    while b < n {
-        chosen = prefer(net, marks, last, chosen, b, n);
-        b += 1;
-    }
-    chosen
-}
+ghost use Rattle.settle.specs.Turns.{Room, Fair, TurnIs, SettleIs};
 
 // The response bounds of flow a worked out again, with those so far; whether one passes the horizon.
 fn turn(
@@ -179,10 +35,10 @@ fn turn(
     if starts::responses(sheet, slots, steps, best, m, stride, end) {
         return true;
     }
-    if raise(replies, best, a * nets::room(net), m) == 0 {
+    if rounds::raise(replies, best, a * nets::room(net), m) == 0 {
         return false;
     }
-    mark(net, pairs, marks, a);
+    rounds::mark(net, pairs, marks, a);
     false
 }
 
@@ -216,7 +72,7 @@ pub fn settle(
     all_set(replies, 0);
     all_set(marks, 1);
     let n = nets::count(net);
-    let mut a = choose(net, marks, n);
+    let mut a = rounds::choose(net, marks, n);
     while a < n {
         if turn(
             net,
@@ -234,7 +90,7 @@ pub fn settle(
             all_set(replies, 0);
             return true;
         }
-        a = choose(net, marks, a);
+        a = rounds::choose(net, marks, a);
     }
     false
 }

@@ -11,7 +11,7 @@ use Rattle.nets.specs.Nets.{countIn, roomIn, lengthIn, netIn, flowAt, nodeAt}
 use Rattle.crossings.specs.Pairs.{placeOn, Noted}
 use Rattle.ways.specs.Ways.{baseOf, WaysAre}
 use Rattle.blocks.specs.Sheet.{blockAt, added, entriesIn, Small, Fit}
-use Rattle.starts.specs.Runs.{mostTime}
+use Rattle.starts.specs.Runs.{Low}
 use Rattle.sheets.specs.Fields.{Entry, upTo, entriesTo, EntryIs, Listed, addedOf}
 
 -- a head, and room for n entries
@@ -71,7 +71,7 @@ pub record Joined (net : List ℕ) (a b : ℕ) (x : ℕ → ℕ → Entry) (e e�
 pub record Given (net pairs ways replies : List ℕ) (a b : ℕ) : Type 0 where
   pub noted : Noted net pairs a b
   pub known : WaysAre net ways
-  pub bounds : (k : ℕ) → values replies k ≤ mostTime
+  pub bounds : Low replies
   pub long : countIn net * roomIn net ≤ length replies
 
 -- of flow a, with the response bounds r

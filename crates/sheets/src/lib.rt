@@ -16,14 +16,14 @@ ghost use Rattle.nets.specs.Nets.{few, Whole, countIn, roomIn, lengthIn, fieldI
 ghost use Rattle.crossings.specs.Pairs.{placeOn, costOn, Noted};
 ghost use Rattle.ways.specs.Ways.{sminTo, WaysAre};
 ghost use Rattle.blocks.specs.Sheet.{hereSlot, nodeSlot, entriesIn, Small, Shaped};
-ghost use Rattle.starts.specs.Runs.{mostTime};
+ghost use Rattle.starts.specs.Runs.{Low};
 ghost use Rattle.sheets.specs.Fields.{SheetIs};
 ghost use Rattle.sheets.specs.Rows.{arrivalAt, higherAt, equalAt, ownAt};
 ghost use Rattle.sheets.specs.Blocks.{blockSize, Frame, Appended, entryFrom, Grown, Roomy, Joined, Given, Filled};
 
 // S of flow b at place q of its path.
 fn arrival(net: &[u16], replies: &[u64], b: usize, q: usize) -> u64
-    requires { ⌜ Whole (now net) × (b < countIn (now net)) × (q ≤ roomIn (now net)) × (countIn (now net) * roomIn (now net) ≤ length (now replies)) × ((k : ℕ) → values (now replies) k ≤ mostTime) ⌝ }
+    requires { ⌜ Whole (now net) × (b < countIn (now net)) × (q ≤ roomIn (now net)) × (countIn (now net) * roomIn (now net) ≤ length (now replies)) × Low (now replies) ⌝ }
     ensures { λ r. ⌜ r ≡ arrivalAt (now (net .entry)) (values (now (replies .entry))) b q ⌝ }
     ensures { λ r. ⌜ r ≤ 131070 ⌝ }
 {
@@ -129,7 +129,7 @@ fn look_at(last: usize, p: usize) -> u64
 
 // J of flow b and its S, at place k of a's path.
 fn delay(net: &[u16], pairs: &[u8], replies: &[u64], a: usize, b: usize, k: usize) -> u64
-    requires { ⌜ Noted (now net) (now pairs) a b × (k < lengthIn (now net) a) × (countIn (now net) * roomIn (now net) ≤ length (now replies)) × ((k : ℕ) → values (now replies) k ≤ mostTime) ⌝ }
+    requires { ⌜ Noted (now net) (now pairs) a b × (k < lengthIn (now net) a) × (countIn (now net) * roomIn (now net) ≤ length (now replies)) × Low (now replies) ⌝ }
     ensures { λ r. ⌜ r ≡ fieldIn (now (net .entry)) b 3 + arrivalAt (now (net .entry)) (values (now (replies .entry))) b (placeOn (now (net .entry)) a b k) ⌝ }
     ensures { λ r. ⌜ r ≤ 196605 ⌝ }
 {
@@ -264,7 +264,7 @@ fn write_flow(
 
 // The sheet of flow a, with the response bounds so far.
 pub fn write(net: &[u16], pairs: &[u8], ways: &[u64], replies: &[u64], sheet: &mut [u64], a: usize)
-    requires { ⌜ Noted (now net) (now pairs) a a × WaysAre (now net) (now ways) × (countIn (now net) * roomIn (now net) ≤ length (now replies)) × ((k : ℕ) → values (now replies) k ≤ mostTime) × Small (now sheet) × (1 + lengthIn (now net) a * (3 + 5 * countIn (now net)) ≤ length (now sheet)) × (length (now sheet) ≤ 16777216) ⌝ }
+    requires { ⌜ Noted (now net) (now pairs) a a × WaysAre (now net) (now ways) × (countIn (now net) * roomIn (now net) ≤ length (now replies)) × Low (now replies) × Small (now sheet) × (1 + lengthIn (now net) a * (3 + 5 * countIn (now net)) ≤ length (now sheet)) × (length (now sheet) ≤ 16777216) ⌝ }
     ensures { λ r. ⌜ (Valid (netIn (now (net .entry))) → SheetIs (netIn (now (net .entry))) (roomIn (now (net .entry))) (values (now (replies .entry))) a (now (sheet .exit))) ⌝ }
     ensures { λ r. ⌜ Shaped (now (sheet .exit)) (lengthIn (now (net .entry)) a) ⌝ }
     ensures { λ r. ⌜ length (now (sheet .exit)) ≡ length (now (sheet .entry)) ⌝ }

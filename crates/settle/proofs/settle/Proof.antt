@@ -4,7 +4,7 @@ use native.Mathlib.Omega.{arith}
 use lib.ListN.{length}
 use borrow.Author.Needs.{needs}
 use Rattle.settle.specs.Turns.{Room, left}
-use Rattle.settle.proofs.Turns.{room-kept}
+use Rattle.settle.proofs.Room.{room-kept}
 use Rattle.settle.proofs.Rest.{Settling, settling-start, settling-past, settling-more, settling-end}
 use Rattle.settle.proofs.settle.Statement.{statement}
 use Rattle.settle.proofs.settle.Tie as tie

@@ -9,7 +9,7 @@ use borrow.Author.Needs.{needs}
 use Rattle.nets.specs.Nets.{countIn, roomIn}
 use Rattle.blocks.specs.Sheet.{Shaped}
 use Rattle.settle.specs.Turns.{Room}
-use Rattle.settle.proofs.Turns.{sheet-fits, steps-fit, room-kept}
+use Rattle.settle.proofs.Room.{sheet-fits, steps-fit, room-kept}
 use Rattle.settle.proofs.Work.{whole, unmarked-fair, Ran, turn-past, turn-still, still-fair, raised-fair, turn-raised}
 use Rattle.settle.proofs.turn.Statement.{statement}
 use Rattle.settle.proofs.turn.Tie as tie

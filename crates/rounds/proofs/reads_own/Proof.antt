@@ -1,12 +1,12 @@
--- `settle::reads_own` meets its contract.
+-- `rounds::reads_own` meets its contract.
 use mathlib.Core.Path.{sym, _∙_, refl}
 use Prim.Native.Nat.{_-_}
 use native.Mathlib.Omega.{arith}
 use borrow.Author.Needs.{needs}
-use Rattle.settle.specs.Reading.{readsOwn}
-use Rattle.settle.proofs.Turns.{Looking, looking-met, looking-next, looking-end}
-use Rattle.settle.proofs.reads_own.Statement.{statement}
-use Rattle.settle.proofs.reads_own.Tie as tie
+use Rattle.rounds.specs.Reading.{readsOwn}
+use Rattle.rounds.proofs.Rounds.{Looking, looking-met, looking-next, looking-end}
+use Rattle.rounds.proofs.reads_own.Statement.{statement}
+use Rattle.rounds.proofs.reads_own.Tie as tie
 
 abbrev Inv-loop : tie.InvT-loop
 Inv-loop net pairs a n b₀ b = Looking net a b

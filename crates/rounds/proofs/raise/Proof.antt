@@ -1,10 +1,10 @@
--- `settle::raise` meets its contract.
+-- `rounds::raise` meets its contract.
 use Prim.Native.Nat.{_-_}
 use native.Mathlib.Omega.{arith}
 use borrow.Author.Needs.{needs}
-use Rattle.settle.proofs.Turns.{Raising, raising-start, raising-more, raising-end}
-use Rattle.settle.proofs.raise.Statement.{statement}
-use Rattle.settle.proofs.raise.Tie as tie
+use Rattle.rounds.proofs.Rounds.{Raising, raising-start, raising-more, raising-end}
+use Rattle.rounds.proofs.raise.Statement.{statement}
+use Rattle.rounds.proofs.raise.Tie as tie
 
 abbrev Inv-loop : tie.InvT-loop
 Inv-loop replies₀ best at m rose₀ k₀ replies rose k = Raising replies₀ best at m replies rose k

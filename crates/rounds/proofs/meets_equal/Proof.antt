@@ -1,10 +1,10 @@
--- `settle::meets_equal` meets its contract.
+-- `rounds::meets_equal` meets its contract.
 use mathlib.Core.Path.{sym, _∙_}
 use borrow.Author.Needs.{needs}
 use Rattle.nets.specs.Nets.{flowIn}
-use Rattle.settle.proofs.Turns.{equal-meets, unequal-meets}
-use Rattle.settle.proofs.meets_equal.Statement.{statement}
-use Rattle.settle.proofs.meets_equal.Tie as tie
+use Rattle.rounds.proofs.Rounds.{equal-meets, unequal-meets}
+use Rattle.rounds.proofs.meets_equal.Statement.{statement}
+use Rattle.rounds.proofs.meets_equal.Tie as tie
 
 side-requires : tie.Need-side-requires
 side-requires c κs = search needs

@@ -1,11 +1,11 @@
--- The loops that raise, read, mark, choose and set: a law for the start, for each turn and for the end. Assumes nothing.
+-- The loops that raise, read, mark and choose: a law for the start, for each turn and for the end. Assumes nothing.
 use mathlib.Core.Path.{_≡_, refl, sym, _∙_, subst}
 use mathlib.Core.Bool.{Bool, true, false}
 use mathlib.Core.Logic.{_⊎_, inl, inr}
 use mathlib.Core.List.{List}
-use Prim.Native.Nat.{ℕ, _+_, _*_, _≤_, _<_, max}
+use Prim.Native.Nat.{ℕ, _+_, _≤_, _<_, max}
 use native.Mathlib.Omega.{arith}
-use native.Mathlib.Nat.{le-refl, mul-le-mul-right}
+use native.Mathlib.Nat.{le-refl}
 use lib.Dec.{eqb}
 use lib.ListN.{length, set, length-set, drop}
 use lib.Seq.{getD-set-same, getD-set-other}
@@ -18,16 +18,13 @@ use Rattle.least.proofs.Count.{le-or-lt}
 use Rattle.least.proofs.Lists.{drop-next, drop-past, length-to, at-to}
 use Rattle.rules.specs.Net.{Flow}
 use Rattle.rules.specs.Formula.{Role, Own, Higher, Equal, Lower, role, crosses}
-use Rattle.nets.specs.Nets.{countIn, roomIn, lengthIn, flowIn, flowsIn, noFlow}
+use Rattle.nets.specs.Nets.{countIn, flowIn, flowsIn, noFlow}
 use Rattle.crossings.specs.Pairs.{sideNumber}
 use Rattle.crossings.proofs.Noting.{aside, own-aside, lower-aside}
-use Rattle.blocks.specs.Sheet.{entriesIn, Small}
-use Rattle.blocks.specs.Kept.{keptSize}
-use Rattle.starts.specs.Kept.{Strided}
-use Rattle.starts.specs.Runs.{mostTime, LowTo}
+use Rattle.starts.specs.Runs.{mostTime, Low, LowTo}
 use Rattle.least.proofs.Stores.{set-cases}
-use Rattle.settle.specs.Reading.{equal, meetsEqual, readsOf, readsOwn, readsFlow}
-use Rattle.settle.specs.Turns.{Low, RaisedIs, MarkedIs, ChosenIs, Room}
+use Rattle.rounds.specs.Reading.{equal, meetsEqual, readsOf, readsOwn, readsFlow}
+use Rattle.rounds.specs.Rounds.{RaisedIs, MarkedIs, ChosenIs}
 
 -- raising
 pub record Raising (replies best : List ℕ) (at m : ℕ) (to : List ℕ) (rose k : ℕ) : Type 0 where
@@ -218,33 +215,3 @@ module _ (marks net : List ℕ) (a n : ℕ) where
 
   pub marking-end : (to : List ℕ) (b : ℕ) → Marking marks net a n to b → n ≤ b → MarkedIs marks net a n to
   marking-end to b m h = let e : b ≡ n = omega (arith, m .few) in subst (λ k. MarkedIs marks net a k to) e (m .done)
-
--- room
-module _ {net busies replies marks sheet slots steps best : List ℕ} (room : Room net busies replies marks sheet slots steps best) where
-  pub sheet-fits : (a : ℕ) → 1 + lengthIn net a * (3 + 5 * countIn net) ≤ length sheet
-  sheet-fits a = omega (arith, room .sheet-long, mul-le-mul-right {m = lengthIn net a} {n = roomIn net} (3 + 5 * countIn net) (omega arith))
-
-  pub steps-fit : (e : List ℕ) (m n : ℕ) → m ≤ roomIn net → n ≡ countIn net → ((p : ℕ) → p < m → entriesIn e p ≤ countIn net) →
-      Strided e (keptSize + n) m steps
-  steps-fit e m n h is few = record {
-    each = λ p q. omega (arith, few p q);
-    long = rw is (omega (arith, room .steps-long, mul-le-mul-right {m = m} {n = roomIn net} (keptSize + countIn net) h));
-    short = room .steps-short;
-  }
-
-  pub room-kept : {replies′ marks′ sheet′ slots′ steps′ best′ : List ℕ} → length replies′ ≡ length replies → length marks′ ≡ length marks →
-      length sheet′ ≡ length sheet → length slots′ ≡ length slots → length steps′ ≡ length steps → length best′ ≡ length best → Small sheet′ → Small slots′ →
-      Room net busies replies′ marks′ sheet′ slots′ steps′ best′
-  room-kept r m e s t b small small′ = record {
-    busies-long = room .busies-long;
-    replies-long = rw r (room .replies-long);
-    marks-long = rw m (room .marks-long);
-    sheet-long = rw e (room .sheet-long);
-    sheet-short = rw e (room .sheet-short);
-    sheet-small = small;
-    slots-long = rw s (room .slots-long);
-    slots-small = small′;
-    steps-long = rw t (room .steps-long);
-    steps-short = rw t (room .steps-short);
-    best-long = rw b (room .best-long);
-  }

@@ -1,8 +1,8 @@
--- `settle::marked` meets its contract.
+-- `rounds::marked` meets its contract.
 use mathlib.Core.Path.{refl, sym, _∙_}
 use Rattle.least.proofs.Fold.{false-true}
-use Rattle.settle.proofs.marked.Statement.{statement}
-use Rattle.settle.proofs.marked.Tie as tie
+use Rattle.rounds.proofs.marked.Statement.{statement}
+use Rattle.rounds.proofs.marked.Tie as tie
 
 returns : tie.Need-returns
 returns c = (λ e. false-true (sym e ∙ c .if1 .taken), λ e. refl)

@@ -1,12 +1,12 @@
--- `settle::choose` meets its contract.
+-- `rounds::choose` meets its contract.
 use mathlib.Core.Path.{subst}
 use Prim.Native.Nat.{_-_}
 use native.Mathlib.Omega.{arith}
 use borrow.Author.Needs.{needs}
-use Rattle.settle.specs.Turns.{ChosenIs}
-use Rattle.settle.proofs.Turns.{chosen-start, chosen-end}
-use Rattle.settle.proofs.choose.Statement.{statement}
-use Rattle.settle.proofs.choose.Tie as tie
+use Rattle.rounds.specs.Rounds.{ChosenIs}
+use Rattle.rounds.proofs.Rounds.{chosen-start, chosen-end}
+use Rattle.rounds.proofs.choose.Statement.{statement}
+use Rattle.rounds.proofs.choose.Tie as tie
 
 abbrev Inv-loop : tie.InvT-loop
 Inv-loop net marks last n chosen₀ b₀ chosen b = ChosenIs marks n b chosen

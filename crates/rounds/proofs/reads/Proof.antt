@@ -1,10 +1,10 @@
--- `settle::reads` meets its contract.
+-- `rounds::reads` meets its contract.
 use mathlib.Core.Path.{sym, _∙_}
 use borrow.Author.Needs.{needs}
 use Rattle.nets.specs.Nets.{flowIn}
-use Rattle.settle.proofs.Turns.{own-unread, lower-unread, other-read, reads-itself, reads-another}
-use Rattle.settle.proofs.reads.Statement.{statement}
-use Rattle.settle.proofs.reads.Tie as tie
+use Rattle.rounds.proofs.Rounds.{own-unread, lower-unread, other-read, reads-itself, reads-another}
+use Rattle.rounds.proofs.reads.Statement.{statement}
+use Rattle.rounds.proofs.reads.Tie as tie
 
 reads-own-requires : tie.Need-reads-own-requires
 reads-own-requires c κs = search needs

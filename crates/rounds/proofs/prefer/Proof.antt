@@ -1,8 +1,8 @@
--- `settle::prefer` meets its contract.
+-- `rounds::prefer` meets its contract.
 use borrow.Author.Needs.{needs}
-use Rattle.settle.proofs.Turns.{chosen-unmarked, chosen-still}
-use Rattle.settle.proofs.prefer.Statement.{statement}
-use Rattle.settle.proofs.prefer.Tie as tie
+use Rattle.rounds.proofs.Rounds.{chosen-unmarked, chosen-still}
+use Rattle.rounds.proofs.prefer.Statement.{statement}
+use Rattle.rounds.proofs.prefer.Tie as tie
 
 mul-if1 : tie.Need-mul-if1
 mul-if1 c = search needs

@@ -1,12 +1,12 @@
--- `settle::mark` meets its contract.
+-- `rounds::mark` meets its contract.
 use mathlib.Core.Path.{_∙_, subst}
 use Prim.Native.Nat.{_-_}
 use native.Mathlib.Omega.{arith}
 use borrow.Author.Needs.{needs}
-use Rattle.settle.specs.Turns.{MarkedIs}
-use Rattle.settle.proofs.Turns.{Marking, marking-start, marking-more, marking-end}
-use Rattle.settle.proofs.mark.Statement.{statement}
-use Rattle.settle.proofs.mark.Tie as tie
+use Rattle.rounds.specs.Rounds.{MarkedIs}
+use Rattle.rounds.proofs.Rounds.{Marking, marking-start, marking-more, marking-end}
+use Rattle.rounds.proofs.mark.Statement.{statement}
+use Rattle.rounds.proofs.mark.Tie as tie
 
 abbrev Inv-loop : tie.InvT-loop
 Inv-loop net pairs marks₀ a n b₀ marks b = Marking marks₀ net a n marks b

@@ -1,0 +1,2 @@
+-- The laws of `rounds`.
+pub mod Rounds

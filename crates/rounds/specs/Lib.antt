@@ -1,0 +1,3 @@
+-- The definitions of `rounds`.
+pub mod Reading
+pub mod Rounds
