@@ -1,5 +1,3 @@
 -- The laws of `blocks`.
 pub mod Terms
 pub mod Looks
-pub mod Steps
-pub mod Kept

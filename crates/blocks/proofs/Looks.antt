@@ -10,8 +10,7 @@ use borrow.Author.Tests.{eq-eqb, ne-eqb, eqb-true, eqb-false}
 use Rattle.least.specs.Fold.{sumTo}
 use Rattle.least.specs.Lists.{values}
 use Rattle.least.proofs.Fold.{sum-to-add, sum-to-ext, sum-to-none}
-use Rattle.blocks.specs.Sheet.{headSize, entrySize, instantSlot, blockAt, entriesIn, entryAt, termOf, instantTerm, lookTerm, instantSum, sheetSum}
-use Rattle.blocks.specs.Kept.{Looking}
+use Rattle.blocks.specs.Sheet.{headSize, entrySize, instantSlot, blockAt, entriesIn, entryAt, termOf, instantTerm, lookTerm, instantSum, sheetSum, Looking}
 use Rattle.blocks.proofs.Terms.{instant-here, instant-not}
 
 module _ (e : List ℕ) (k : ℕ) (v : ℕ → ℕ) where

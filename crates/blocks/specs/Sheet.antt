@@ -1,5 +1,6 @@
 -- A sheet: for each node of a path a block of numbers, from which the sum at that node is worked out. Its first number is the size of a block; a
 -- block has what hangs on nothing, what a response bound adds to W, how many entries there are, and the entries.
+use mathlib.Core.Path.{_≡_}
 use mathlib.Core.List.{List}
 use Prim.Native.Nat.{ℕ, _+_, _-_, _*_, _≤_, _<_}
 use lib.Dec.{eqb}
@@ -75,6 +76,10 @@ Small l = (k : ℕ) → values l k < 16777216
 -- a count at node p looks at p itself, at the instant or at an earlier node
 abbrev pub Fit : List ℕ → ℕ → Type 0
 Fit e m = (p q : ℕ) → p < m → q < entriesIn e p → values e (entryAt e p q) < nodeSlot p
+
+-- 0 only if every count of node p looks at the instant
+abbrev pub Looking : List ℕ → ℕ → ℕ → Type 0
+Looking e p n = n ≡ 0 → (q : ℕ) → q < entriesIn e p → values e (entryAt e p q) ≡ instantSlot
 
 -- a sheet for a path of m nodes: each block stands in it whole, with so few entries that no sum is cut
 pub record Shaped (e : List ℕ) (m : ℕ) : Type 0 where

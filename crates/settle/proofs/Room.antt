@@ -7,7 +7,7 @@ use native.Mathlib.Omega.{arith}
 use lib.ListN.{length}
 use Rattle.nets.specs.Nets.{countIn, roomIn, lengthIn}
 use Rattle.blocks.specs.Sheet.{entriesIn, Small}
-use Rattle.blocks.specs.Kept.{keptSize}
+use Rattle.steps.specs.Kept.{keptSize}
 use Rattle.starts.specs.Kept.{Strided}
 use Rattle.settle.specs.Turns.{Room}
 

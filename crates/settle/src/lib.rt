@@ -31,7 +31,7 @@ fn turn(
     sheets::write(net, pairs, ways, replies, sheet, a);
     let m = nets::hops(net, a);
     let end = busies[a];
-    let stride = blocks::KEPT + nets::count(net);
+    let stride = steps::KEPT + nets::count(net);
     if starts::responses(sheet, slots, steps, best, m, stride, end) {
         return true;
     }

@@ -7,10 +7,10 @@ use native.Mathlib.Nat.{mul-le-mul-right}
 use lib.ListN.{length}
 use borrow.Author.Count.{below-more}
 use Rattle.least.specs.Lists.{values, Inside}
-use Rattle.blocks.specs.Sheet.{entriesIn, entryAt, Shaped}
-use Rattle.blocks.specs.Steps.{EntryStep, NodeStep}
-use Rattle.blocks.specs.Kept.{keptSize, Looking, KeptAt}
-use Rattle.blocks.proofs.Kept.{kept-later}
+use Rattle.blocks.specs.Sheet.{entriesIn, entryAt, Shaped, Looking}
+use Rattle.steps.specs.Steps.{EntryStep, NodeStep}
+use Rattle.steps.specs.Kept.{keptSize, KeptAt}
+use Rattle.steps.proofs.Kept.{kept-later}
 use Rattle.starts.specs.Steps.{SheetStep}
 use Rattle.starts.specs.Kept.{Strided, KeptTo}
 use Rattle.starts.proofs.Steps.{nodes-none, nodes-more, nodes-all, node-late}

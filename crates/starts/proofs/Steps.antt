@@ -15,9 +15,9 @@ use Rattle.least.proofs.Fold.{sum-to-lt, sum-to-ext}
 use Rattle.least.proofs.Fixed.{least-ext}
 use Rattle.least.proofs.Steps.{step-none, step-first, step-more, best-still}
 use Rattle.blocks.specs.Sheet.{hereSlot, instantSlot, added, entriesIn, entryAt, termOf, lookTerm, instantSum, seen, sums, Fit}
-use Rattle.blocks.specs.Steps.{NodeStep}
+use Rattle.steps.specs.Steps.{NodeStep}
 use Rattle.blocks.proofs.Looks.{sheet-split}
-use Rattle.blocks.proofs.Steps.{sum-rises}
+use Rattle.steps.proofs.Steps.{sum-rises}
 use Rattle.starts.specs.Runs.{StartsOf, prior}
 use Rattle.starts.specs.Steps.{SheetStep}
 use Rattle.starts.proofs.Sums.{start-found}

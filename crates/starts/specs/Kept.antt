@@ -4,8 +4,8 @@ use mathlib.Core.List.{List}
 use Prim.Native.Nat.{ℕ, _+_, _*_, _≤_, _<_}
 use lib.ListN.{length}
 use Rattle.least.specs.Lists.{values}
-use Rattle.blocks.specs.Sheet.{entriesIn, instantSum}
-use Rattle.blocks.specs.Kept.{keptSize, Looking, KeptAt}
+use Rattle.blocks.specs.Sheet.{entriesIn, instantSum, Looking}
+use Rattle.steps.specs.Kept.{keptSize, KeptAt}
 
 -- room for m nodes, one every stride places, each with what is kept of its entries
 pub record Strided (e : List ℕ) (stride m : ℕ) (steps : List ℕ) : Type 0 where

@@ -8,8 +8,7 @@ ghost use Prim.Native.Nat.{_+_, _-_, _<_, _≤_};
 ghost use lib.ListN.{length};
 ghost use Rattle.least.specs.Fixed.{Under};
 ghost use Rattle.least.specs.Lists.{values, Inside};
-ghost use Rattle.blocks.specs.Sheet.{mostInstant, instantSlot, nodeSlot, instantSum, sums, Small, Shaped};
-ghost use Rattle.blocks.specs.Kept.{Looking};
+ghost use Rattle.blocks.specs.Sheet.{mostInstant, instantSlot, nodeSlot, instantSum, sums, Small, Shaped, Looking};
 ghost use Rattle.starts.specs.Begins.{BeginIs, BeginFits, Kept};
 ghost use Rattle.starts.specs.Runs.{LowTo, InstantIs, ResponsesAre};
 ghost use Rattle.starts.specs.Steps.{SheetStep};
@@ -94,7 +93,7 @@ fn keep(e: &[u64], steps: &mut [u64], m: usize, stride: usize, u: u64, end: u64)
     let mut at: usize = 0;
     let mut p: usize = 0;
     while p < m {
-        let step = blocks::keep_node(e, steps, p, at, u, end);
+        let step = steps::keep_node(e, steps, p, at, u, end);
         next = least::lesser(next, step);
         at += stride;
         p += 1;

@@ -5,8 +5,7 @@ use Rattle.starts.proofs.Kept.{strided-room, shaped-less}
 use mathlib.Core.Path.{_≡_, sym, ap, _∙_, subst}
 use lib.ListN.{length-set}
 use Rattle.least.specs.Lists.{values}
-use Rattle.blocks.specs.Sheet.{nodeSlot}
-use Rattle.blocks.specs.Kept.{Looking}
+use Rattle.blocks.specs.Sheet.{nodeSlot, Looking}
 use borrow.Author.Needs.{needs}
 use native.Mathlib.Omega.{arith}
 use Rattle.starts.proofs.instant.Statement.{statement}

@@ -1,7 +1,7 @@
 -- `starts::keep` meets its contract.
 use mathlib.Core.Path.{sym, subst}
 use Prim.Native.Nat.{ℕ, _-_, _*_, _≤_, _<_}
-use Rattle.blocks.specs.Kept.{KeptAt}
+use Rattle.steps.specs.Kept.{KeptAt}
 use Rattle.starts.proofs.Kept.{strided-room, shaped-less, Noded, noded-none, noded-more, noded-left, noded-all}
 use borrow.Author.Needs.{needs}
 use native.Mathlib.Omega.{arith}
@@ -10,7 +10,7 @@ use Rattle.starts.proofs.keep.Tie as tie
 use Rattle.starts.proofs.keep.Reads as reads
 use Rattle.starts.proofs.keep.Lts as lts
 use Rattle.least.proofs.lesser.Reads as lesser-reads
-use Rattle.blocks.proofs.keep_node.Reads as keep-node-reads
+use Rattle.steps.proofs.keep_node.Reads as keep-node-reads
 
 abbrev Inv-loop : tie.InvT-loop
 Inv-loop e steps₀ m stride u end next₀ at₀ p₀ steps next at p = (p ≤ m) × Noded e stride m end u steps₀ steps next at p × (0 < u → (j : ℕ) → p ≤ j → j < m → KeptAt e end (u - 1) steps j (j * stride))

@@ -1,14 +1,14 @@
 -- `blocks::advance_node` meets its contract.
 use Rattle.least.proofs.Steps.{step-on}
 use Rattle.least.proofs.Stores.{inside-none}
-use Rattle.blocks.proofs.Kept.{kept-later}
+use Rattle.steps.proofs.Kept.{kept-later}
 use native.Mathlib.Omega.{arith}
 use borrow.Author.Needs.{needs}
-use Rattle.blocks.proofs.advance_node.Statement.{statement}
-use Rattle.blocks.proofs.advance_node.Tie as tie
-use Rattle.blocks.proofs.advance_node.Reads as reads
-use Rattle.blocks.proofs.advance_node.Lts as lts
-use Rattle.blocks.proofs.step_node.Reads as step-node-reads
+use Rattle.steps.proofs.advance_node.Statement.{statement}
+use Rattle.steps.proofs.advance_node.Tie as tie
+use Rattle.steps.proofs.advance_node.Reads as reads
+use Rattle.steps.proofs.advance_node.Lts as lts
+use Rattle.steps.proofs.step_node.Reads as step-node-reads
 
 add-next : tie.Need-add-next
 add-next c = search needs

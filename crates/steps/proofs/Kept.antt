@@ -9,10 +9,10 @@ use borrow.Author.Count.{below-more}
 use Rattle.least.specs.Lists.{values, Inside}
 use Rattle.least.proofs.Stores.{inside-none, inside-set, inside-then}
 use Rattle.least.proofs.Steps.{step-on}
-use Rattle.blocks.specs.Sheet.{entriesIn, entryAt, instantSum}
-use Rattle.blocks.specs.Steps.{EntryStep, NodeStep}
-use Rattle.blocks.specs.Kept.{keptSize, Looking, KeptAt}
-use Rattle.blocks.proofs.Steps.{EntriesStep, entries-none, entries-more, entries-all}
+use Rattle.blocks.specs.Sheet.{entriesIn, entryAt, instantSum, Looking}
+use Rattle.steps.specs.Steps.{EntryStep, NodeStep}
+use Rattle.steps.specs.Kept.{keptSize, KeptAt}
+use Rattle.steps.proofs.Steps.{EntriesStep, entries-none, entries-more, entries-all}
 
 -- the sum and the node's next step written
 abbrev pub headed : List ℕ → ℕ → ℕ → ℕ → List ℕ

@@ -1,13 +1,13 @@
 -- `blocks::entry_step` meets its contract.
 use Prim.Native.Nat.{_+_}
-use Rattle.blocks.proofs.Steps.{entry-none, entry-other, entry-looks}
+use Rattle.steps.proofs.Steps.{entry-none, entry-other, entry-looks}
 use native.Mathlib.Omega.{arith}
 use borrow.Author.Needs.{needs}
-use Rattle.blocks.proofs.entry_step.Statement.{statement}
-use Rattle.blocks.proofs.entry_step.Tie as tie
-use Rattle.blocks.proofs.entry_step.Reads as reads
-use Rattle.blocks.proofs.entry_step.Lts as lts
-use Rattle.blocks.proofs.step_after.Reads as step-after-reads
+use Rattle.steps.proofs.entry_step.Statement.{statement}
+use Rattle.steps.proofs.entry_step.Tie as tie
+use Rattle.steps.proofs.entry_step.Reads as reads
+use Rattle.steps.proofs.entry_step.Lts as lts
+use Rattle.steps.proofs.step_after.Reads as step-after-reads
 
 add-weight : tie.Need-add-weight
 add-weight c = search needs

@@ -15,9 +15,9 @@ use Rattle.least.specs.Steps.{Step}
 use Rattle.least.proofs.Count.{le-or-lt, pick-le, count-tick}
 use Rattle.least.proofs.Fold.{sum-to-le}
 use Rattle.least.proofs.Steps.{step-ext, step-none, step-more, step-map}
 use Rattle.blocks.specs.Sheet.{instantSlot, blockAt, entriesIn, entryAt, instantTerm, instantSum}
-use Rattle.blocks.specs.Steps.{EntryStep, NodeStep}
+use Rattle.steps.specs.Steps.{EntryStep, NodeStep}
 use Rattle.blocks.proofs.Terms.{term-none, term-some, term-le, instant-here, instant-not, instantTo}
 
 -- what hangs on the instant rises with it
 module _ (e : List ℕ) (u v : ℕ) (h : u ≤ v) where

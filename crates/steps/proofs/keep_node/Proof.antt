@@ -1,8 +1,8 @@
 -- `blocks::keep_node` meets its contract.
 use native.Mathlib.Omega.{arith}
 use borrow.Author.Needs.{needs}
-use Rattle.blocks.proofs.keep_node.Statement.{statement}
-use Rattle.blocks.proofs.keep_node.Tie as tie
+use Rattle.steps.proofs.keep_node.Statement.{statement}
+use Rattle.steps.proofs.keep_node.Tie as tie
 
 begin-node-requires : tie.Need-begin-node-requires
 begin-node-requires c κs = search needs

@@ -3,20 +3,20 @@ use lib.ListN.{length-set}
 use mathlib.Core.Path.{_≡_, refl, ap}
 use Prim.Native.Nat.{_+_, _-_, _*_, _≤_}
 use Rattle.least.specs.Lists.{values}
 use Rattle.blocks.specs.Sheet.{headSize, entrySize, blockAt, entriesIn}
-use Rattle.blocks.specs.Kept.{keptSize}
+use Rattle.steps.specs.Kept.{keptSize}
 use Rattle.least.proofs.Stores.{inside-none}
-use Rattle.blocks.proofs.Kept.{Entered, entered-none, entered-more, entered-next, entered-looks, entered-all}
-use Rattle.blocks.proofs.Terms.{Gained, gained-none, gained-more, gained-all, gained-small}
+use Rattle.steps.proofs.Kept.{Entered, entered-none, entered-more, entered-next, entered-looks, entered-all}
+use Rattle.steps.proofs.Sums.{Gained, gained-none, gained-more, gained-all, gained-small}
 use borrow.Author.Needs.{needs}
 use native.Mathlib.Omega.{arith}
-use Rattle.blocks.proofs.step_node.Statement.{statement}
-use Rattle.blocks.proofs.step_node.Tie as tie
-use Rattle.blocks.proofs.step_node.Reads as reads
-use Rattle.blocks.proofs.step_node.Lts as lts
+use Rattle.steps.proofs.step_node.Statement.{statement}
+use Rattle.steps.proofs.step_node.Tie as tie
+use Rattle.steps.proofs.step_node.Reads as reads
+use Rattle.steps.proofs.step_node.Lts as lts
 use Rattle.least.proofs.lesser.Reads as lesser-reads
-use Rattle.blocks.proofs.advance_entry.Reads as advance-entry-reads
+use Rattle.steps.proofs.advance_entry.Reads as advance-entry-reads
 use Rattle.blocks.proofs.block_at.Reads as block-at-reads
 
 abbrev Inv-loop : tie.InvT-loop
 Inv-loop e steps₀ p at u end block n sum₀ next₀ q₀ steps sum next q = (q ≤ n) × (block ≡ blockAt e p) × (n ≡ entriesIn e p) × Gained e p (u - 1) u q sum × Entered e end u p at steps₀ steps next q

@@ -4,23 +4,24 @@ use lib.ListN.{set, length-set}
 use mathlib.Core.Path.{_≡_, sym, ap, subst}
 use Prim.Native.Nat.{ℕ, _+_, _-_, _*_, _≤_, _<_}
 use Rattle.least.specs.Lists.{values}
-use Rattle.blocks.specs.Sheet.{headSize, entrySize, instantSlot, blockAt, entriesIn, entryAt}
-use Rattle.blocks.specs.Kept.{keptSize, Looking}
+use Rattle.blocks.specs.Sheet.{headSize, entrySize, instantSlot, blockAt, entriesIn, entryAt, Looking}
+use Rattle.steps.specs.Kept.{keptSize}
 use Rattle.least.proofs.Stores.{inside-set}
-use Rattle.blocks.proofs.Kept.{headed, Entered, entered-none, entered-more, entered-all}
-use Rattle.blocks.proofs.Terms.{instantTo, begun-none, begun-more, begun-all}
+use Rattle.steps.proofs.Kept.{headed, Entered, entered-none, entered-more, entered-all}
+use Rattle.blocks.proofs.Terms.{instantTo}
+use Rattle.steps.proofs.Sums.{begun-none, begun-more, begun-all}
 use borrow.Author.Count.{below-more}
 use borrow.Author.Needs.{needs}
 use native.Mathlib.Omega.{arith}
-use Rattle.blocks.proofs.begin_node.Statement.{statement}
-use Rattle.blocks.proofs.begin_node.Tie as tie
-use Rattle.blocks.proofs.begin_node.Reads as reads
-use Rattle.blocks.proofs.begin_node.Lts as lts
+use Rattle.steps.proofs.begin_node.Statement.{statement}
+use Rattle.steps.proofs.begin_node.Tie as tie
+use Rattle.steps.proofs.begin_node.Reads as reads
+use Rattle.steps.proofs.begin_node.Lts as lts
 use Rattle.least.proofs.lesser.Reads as lesser-reads
 use Rattle.blocks.proofs.block_at.Reads as block-at-reads
-use Rattle.blocks.proofs.entry_step.Reads as entry-step-reads
+use Rattle.steps.proofs.entry_step.Reads as entry-step-reads
 use Rattle.blocks.proofs.instant_term.Reads as instant-term-reads
-use Rattle.blocks.proofs.looking.Reads as looking-reads
+use Rattle.steps.proofs.looking.Reads as looking-reads
 
 abbrev Inv-loop : tie.InvT-loop
 Inv-loop e steps₀ p at u end block n sum₀ next₀ looks₀ q₀ steps sum next looks q = (q ≤ n) × (block ≡ blockAt e p) × (n ≡ entriesIn e p) × (sum ≡ values e (blockAt e p) + instantTo e p u q) × (sum < 16777216 + 562949953421312 * q) × Entered e end u p at steps₀ steps next q × (looks ≡ 0 → (i : ℕ) → i < q → values e (entryAt e p i) ≡ instantSlot)

@@ -4,10 +4,10 @@ use native.Mathlib.Nat.{mod-lt}
 use Rattle.least.proofs.Steps.{count-first, count-ever, count-next}
 use native.Mathlib.Omega.{arith}
 use borrow.Author.Needs.{needs}
-use Rattle.blocks.proofs.step_after.Statement.{statement}
-use Rattle.blocks.proofs.step_after.Tie as tie
-use Rattle.blocks.proofs.step_after.Reads as reads
-use Rattle.blocks.proofs.step_after.Lts as lts
+use Rattle.steps.proofs.step_after.Statement.{statement}
+use Rattle.steps.proofs.step_after.Tie as tie
+use Rattle.steps.proofs.step_after.Reads as reads
+use Rattle.steps.proofs.step_after.Lts as lts
 use Rattle.least.proofs.lesser.Reads as lesser-reads
 
 add-if1 : tie.Need-add-if1

@@ -2,18 +2,18 @@
 use mathlib.Core.Path.{_≡_, sym, subst}
 use Prim.Native.Nat.{_-_, _+_}
 use Rattle.least.specs.Lists.{values}
-use Rattle.blocks.specs.Steps.{EntryStep}
+use Rattle.steps.specs.Steps.{EntryStep}
 use lib.Seq.{getD-set-same}
 use Rattle.least.proofs.Steps.{step-on}
-use Rattle.blocks.proofs.Steps.{entry-tick}
+use Rattle.steps.proofs.Steps.{entry-tick}
 use Rattle.least.proofs.Stores.{inside-none, inside-set}
 use native.Mathlib.Omega.{arith}
 use borrow.Author.Needs.{needs}
-use Rattle.blocks.proofs.advance_entry.Statement.{statement}
-use Rattle.blocks.proofs.advance_entry.Tie as tie
-use Rattle.blocks.proofs.advance_entry.Reads as reads
-use Rattle.blocks.proofs.advance_entry.Lts as lts
-use Rattle.blocks.proofs.entry_step.Reads as entry-step-reads
+use Rattle.steps.proofs.advance_entry.Statement.{statement}
+use Rattle.steps.proofs.advance_entry.Tie as tie
+use Rattle.steps.proofs.advance_entry.Reads as reads
+use Rattle.steps.proofs.advance_entry.Lts as lts
+use Rattle.steps.proofs.entry_step.Reads as entry-step-reads
 
 mul-if1 : tie.Need-mul-if1
 mul-if1 c = search needs

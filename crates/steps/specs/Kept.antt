@@ -4,15 +4,11 @@ use mathlib.Core.Path.{_≡_}
 use mathlib.Core.List.{List}
 use Prim.Native.Nat.{ℕ, _+_, _≤_, _<_}
 use Rattle.least.specs.Lists.{values}
-use Rattle.blocks.specs.Sheet.{instantSlot, entriesIn, entryAt, instantSum}
-use Rattle.blocks.specs.Steps.{EntryStep, NodeStep}
+use Rattle.blocks.specs.Sheet.{entriesIn, entryAt, instantSum, Looking}
+use Rattle.steps.specs.Steps.{EntryStep, NodeStep}
 
 abbrev pub keptSize : ℕ
 keptSize = 3
-
--- 0 only if every count of node p looks at the instant
-abbrev pub Looking : List ℕ → ℕ → ℕ → Type 0
-Looking e p n = n ≡ 0 → (q : ℕ) → q < entriesIn e p → values e (entryAt e p q) ≡ instantSlot
 
 -- at a place
 pub record KeptAt (e : List ℕ) (end u : ℕ) (steps : List ℕ) (p at : ℕ) : Type 0 where

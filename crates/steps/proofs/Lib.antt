@@ -1,0 +1,4 @@
+-- The laws of `steps`.
+pub mod Steps
+pub mod Sums
+pub mod Kept
