@@ -8,7 +8,8 @@ use lib.ListN.{length, take}
 use Rattle.least.specs.Lists.{values}
 use Rattle.rules.specs.Valid.{Valid}
 use Rattle.nets.specs.Nets.{countIn, roomIn, lengthIn, hopIn, pathIn, flowIn, netIn}
-use Rattle.ways.specs.Ways.{baseOf, sminTo, wayTo, wayAt, Known}
+use Rattle.terms.specs.Terms.{baseOf, sminTo, wayTo}
+use Rattle.ways.specs.Ways.{wayAt, Known}
 
 module _ (net ways : List ℕ) (a k at : ℕ) (e : at ≡ wayAt net a k) where
   pub there : countIn net * roomIn net * 3 ≤ length ways → a < countIn net → k < lengthIn net a → at + 2 < length ways

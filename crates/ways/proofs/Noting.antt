@@ -14,8 +14,8 @@ use Rattle.least.proofs.Stores.{ahead-none, ahead-set, ahead-then}
 use Rattle.rules.specs.Valid.{Valid}
 use Rattle.nets.specs.Nets.{Whole, countIn, roomIn, lengthIn, hopIn, netIn}
 use Rattle.ways.specs.Ways.{wayAt, WayFits, WayIs, PlacesAre, WaysAre}
-use Rattle.ways.specs.Whole.{leastOver, lowerOver, sminOver, wayOver, term5Over, baseOver}
-use Rattle.ways.proofs.Whole.{smin-whole, way-whole, base-whole}
+use Rattle.terms.specs.Whole.{leastOver, lowerOver, sminOver, wayOver, term5Over, baseOver}
+use Rattle.terms.proofs.Whole.{smin-whole, way-whole, base-whole}
 
 -- three numbers written from a place on
 module _ (l : List ℕ) (at x y z : ℕ) where

@@ -1,3 +1,2 @@
 -- The definitions of `ways`.
 pub mod Ways
-pub mod Whole

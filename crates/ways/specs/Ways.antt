@@ -1,25 +1,12 @@
 -- What is noted of each place of a flow's path: Smin and M there, and what of the sum hangs on nothing.
 use mathlib.Core.Path.{_≡_}
 use mathlib.Core.List.{List}
-use Prim.Native.Nat.{ℕ, _+_, _-_, _*_, _≤_, _<_}
+use Prim.Native.Nat.{ℕ, _+_, _*_, _≤_, _<_}
 use lib.ListN.{length, take}
-use Rattle.least.specs.Fold.{sumOf}
 use Rattle.least.specs.Lists.{values}
-use Rattle.rules.specs.Net.{Hop, Flow, Net}
-use Rattle.rules.specs.Formula.{least, leastCost, costAt, slowest, term4, term5, term6}
 use Rattle.rules.specs.Valid.{Valid}
 use Rattle.nets.specs.Nets.{Whole, countIn, roomIn, lengthIn, hopIn, pathIn, flowIn, netIn}
-
--- what hangs on nothing, at node h with the prefix P: terms 4, 5 and 6, and i's first packet less C
-unfoldable pub baseOf : Net → Flow → List Hop → ℕ → ℕ
-baseOf N i P h = term4 N i P + term5 N i P + term6 N P + slowest P (i .path) - costAt (i .path) h
-
--- Smin and M at the node behind the first k
-abbrev pub sminTo : Net → Flow → ℕ → ℕ
-sminTo N j k = sumOf (λ h. least h + N .lmin) (take k (j .path))
-
-abbrev pub wayTo : Net → Flow → ℕ → ℕ
-wayTo N i k = sumOf (λ h. N .lmin + leastCost N i h) (take k (i .path))
+use Rattle.terms.specs.Terms.{baseOf, sminTo, wayTo}
 
 abbrev pub wayAt : List ℕ → ℕ → ℕ → ℕ
 wayAt net a k = (a * roomIn net + k) * 3

@@ -6,7 +6,7 @@ use lib.ListN.{length, length-set}
 use borrow.Author.Needs.{needs}
 use Rattle.nets.specs.Nets.{lengthIn}
 use Rattle.least.specs.Fold.{sumTo}
-use Rattle.ways.specs.Whole.{sminOver, wayOver, term5Over}
+use Rattle.terms.specs.Whole.{sminOver, wayOver, term5Over}
 use Rattle.ways.proofs.Noted.{there}
 use Rattle.ways.proofs.Noting.{smin-more, way-more, term5-more, going-start, going-more, going-end, Going}
 use Rattle.ways.proofs.note_flow.Statement.{statement}

@@ -28,8 +28,8 @@ use Rattle.nets.proofs.Places.{own-same}
 use Rattle.nets.proofs.Sets.{distinct-in}
 use Rattle.crossings.specs.Pairs.{costOn, alongTo}
 use Rattle.crossings.proofs.Costs.{cost-on, own-cost, own-slowest}
-use Rattle.ways.specs.Ways.{baseOf, sminTo, wayTo}
-use Rattle.ways.specs.Whole.{leastBy, greatestBy, lowerBy, leastOver, greatestOver, lowerOver, slowerOf, slowestTo, term4By, term4Over, term5Over, baseOver, sminOver, wayOver}
+use Rattle.terms.specs.Terms.{baseOf, sminTo, wayTo}
+use Rattle.terms.specs.Whole.{leastBy, greatestBy, lowerBy, leastOver, greatestOver, lowerOver, slowerOf, slowestTo, term4By, term4Over, term5Over, baseOver, sminOver, wayOver}
 
 -- the earliest of a cost
 earliest-at : (c : ℕ) (l : List Hop) (s : ℕ) → s < length l → getD l s noHop .cost ≡ c → ((k : ℕ) → k < s → getD l k noHop .cost < c) →

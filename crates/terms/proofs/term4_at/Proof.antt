@@ -1,8 +1,8 @@
 -- `ways::term4_at` meets its contract.
 use borrow.Author.Needs.{needs}
-use Rattle.ways.proofs.Turns.{term4-slowest, term4-other}
-use Rattle.ways.proofs.term4_at.Statement.{statement}
-use Rattle.ways.proofs.term4_at.Tie as tie
+use Rattle.terms.proofs.Turns.{term4-slowest, term4-other}
+use Rattle.terms.proofs.term4_at.Statement.{statement}
+use Rattle.terms.proofs.term4_at.Tie as tie
 
 returns : tie.Need-returns
 returns c = (search term4-slowest, search needs)

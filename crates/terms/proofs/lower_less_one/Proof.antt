@@ -5,10 +5,10 @@ use native.Mathlib.Omega.{arith}
 use borrow.Author.Needs.{needs}
 use Rattle.least.proofs.Ranges.{max-to-more}
 use Rattle.least.specs.Fold.{maxTo}
-use Rattle.ways.specs.Whole.{lowerBy}
-use Rattle.ways.proofs.Turns.{lower-end}
-use Rattle.ways.proofs.lower_less_one.Statement.{statement}
-use Rattle.ways.proofs.lower_less_one.Tie as tie
+use Rattle.terms.specs.Whole.{lowerBy}
+use Rattle.terms.proofs.Turns.{lower-end}
+use Rattle.terms.proofs.lower_less_one.Statement.{statement}
+use Rattle.terms.proofs.lower_less_one.Tie as tie
 
 abbrev Inv-loop : tie.InvT-loop
 Inv-loop net pairs a k n most₀ b₀ most b = (most ≤ 65535) × (b ≤ n) × (most ≡ max 1 (maxTo b (lowerBy net a k)))

@@ -6,10 +6,10 @@ use borrow.Author.Needs.{needs}
 use Rattle.least.proofs.Ranges.{min-to-more}
 use Rattle.least.specs.Fold.{minTo}
 use Rattle.nets.specs.Nets.{hopIn}
-use Rattle.ways.specs.Whole.{leastBy}
-use Rattle.ways.proofs.Turns.{least-end}
-use Rattle.ways.proofs.least_cost.Statement.{statement}
-use Rattle.ways.proofs.least_cost.Tie as tie
+use Rattle.terms.specs.Whole.{leastBy}
+use Rattle.terms.proofs.Turns.{least-end}
+use Rattle.terms.proofs.least_cost.Statement.{statement}
+use Rattle.terms.proofs.least_cost.Tie as tie
 
 abbrev Inv-loop : tie.InvT-loop
 Inv-loop net pairs a k n cost₀ b₀ cost b = (cost ≤ 65535) × (b ≤ n) × (cost ≡ minTo (hopIn net a k .cost) b (leastBy net a k))

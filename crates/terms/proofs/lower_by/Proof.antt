@@ -1,8 +1,8 @@
 -- `ways::lower_by` meets its contract.
 use borrow.Author.Needs.{needs}
-use Rattle.ways.proofs.Turns.{lower-brings, others-bring-none}
-use Rattle.ways.proofs.lower_by.Statement.{statement}
-use Rattle.ways.proofs.lower_by.Tie as tie
+use Rattle.terms.proofs.Turns.{lower-brings, others-bring-none}
+use Rattle.terms.proofs.lower_by.Statement.{statement}
+use Rattle.terms.proofs.lower_by.Tie as tie
 
 side-requires : tie.Need-side-requires
 side-requires c κs = search needs

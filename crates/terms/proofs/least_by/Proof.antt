@@ -1,8 +1,8 @@
 -- `ways::least_by` meets its contract.
 use borrow.Author.Needs.{needs}
-use Rattle.ways.proofs.Turns.{least-apart, least-unvisited, least-visited}
-use Rattle.ways.proofs.least_by.Statement.{statement}
-use Rattle.ways.proofs.least_by.Tie as tie
+use Rattle.terms.proofs.Turns.{least-apart, least-unvisited, least-visited}
+use Rattle.terms.proofs.least_by.Statement.{statement}
+use Rattle.terms.proofs.least_by.Tie as tie
 
 cost-requires : tie.Need-cost-requires
 cost-requires c κs = search needs

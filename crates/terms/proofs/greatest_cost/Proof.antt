@@ -6,10 +6,10 @@ use borrow.Author.Needs.{needs}
 use Rattle.least.proofs.Ranges.{max-to-more}
 use Rattle.least.specs.Fold.{maxTo}
 use Rattle.nets.specs.Nets.{hopIn}
-use Rattle.ways.specs.Whole.{greatestBy}
-use Rattle.ways.proofs.Turns.{noted-other, greatest-end}
-use Rattle.ways.proofs.greatest_cost.Statement.{statement}
-use Rattle.ways.proofs.greatest_cost.Tie as tie
+use Rattle.terms.specs.Whole.{greatestBy}
+use Rattle.terms.proofs.Turns.{noted-other, greatest-end}
+use Rattle.terms.proofs.greatest_cost.Statement.{statement}
+use Rattle.terms.proofs.greatest_cost.Tie as tie
 
 abbrev Inv-loop : tie.InvT-loop
 Inv-loop net pairs a p k n most₀ b₀ most b = (most ≤ 65535) × (b ≤ n) × (most ≡ max (hopIn net a k .cost) (maxTo b (greatestBy net a p k)))

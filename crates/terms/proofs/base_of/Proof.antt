@@ -3,9 +3,9 @@ use Prim.Native.Nat.{_≤_}
 use native.Mathlib.Nat.{mul-le-mul}
 use native.Mathlib.Omega.{arith}
 use borrow.Author.Needs.{needs}
-use Rattle.ways.proofs.Turns.{base-made}
-use Rattle.ways.proofs.base_of.Statement.{statement}
-use Rattle.ways.proofs.base_of.Tie as tie
+use Rattle.terms.proofs.Turns.{base-made}
+use Rattle.terms.proofs.base_of.Statement.{statement}
+use Rattle.terms.proofs.base_of.Tie as tie
 
 slowest-place-requires : tie.Need-slowest-place-requires
 slowest-place-requires c κs = search needs

@@ -13,7 +13,7 @@ use Rattle.least.specs.Lists.{values}
 use Rattle.rules.specs.Formula.{Role, Own, Higher, Equal, Lower, role, lower, visits}
 use Rattle.nets.specs.Nets.{countIn, lengthIn, hopIn, pathIn, flowIn}
 use Rattle.crossings.specs.Pairs.{costOn, sideNumber, alongTo, Noted}
-use Rattle.ways.specs.Whole.{leastBy, greatestBy, lowerBy, leastOver, greatestOver, lowerOver, slowerOf, slowestTo, term4By, term4Over, baseOver}
+use Rattle.terms.specs.Whole.{leastBy, greatestBy, lowerBy, leastOver, greatestOver, lowerOver, slowerOf, slowestTo, term4By, term4Over, baseOver}
 
 pub noted-other : {net pairs : List ℕ} {a : ℕ} → Noted net pairs a a → (b : ℕ) → b < countIn net → Noted net pairs a b
 noted-other n b h = record { all = n .all; one = n .one; other = h }

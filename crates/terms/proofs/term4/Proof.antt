@@ -5,10 +5,10 @@ use native.Mathlib.Omega.{arith}
 use borrow.Author.Needs.{needs}
 use Rattle.least.proofs.Ranges.{sum-to-more}
 use Rattle.least.specs.Fold.{sumTo}
-use Rattle.ways.specs.Whole.{term4By}
-use Rattle.ways.proofs.Turns.{term4-end}
-use Rattle.ways.proofs.term4.Statement.{statement}
-use Rattle.ways.proofs.term4.Tie as tie
+use Rattle.terms.specs.Whole.{term4By}
+use Rattle.terms.proofs.Turns.{term4-end}
+use Rattle.terms.proofs.term4.Statement.{statement}
+use Rattle.terms.proofs.term4.Tie as tie
 
 abbrev Inv-loop : tie.InvT-loop
 Inv-loop net pairs a p s sum₀ k₀ sum k = (k ≤ p + 1) × (sum ≤ 65535 * k) × (sum ≡ sumTo k (term4By net a p s))

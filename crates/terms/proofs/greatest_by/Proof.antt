@@ -1,8 +1,8 @@
 -- `ways::greatest_by` meets its contract.
 use borrow.Author.Needs.{needs}
-use Rattle.ways.proofs.Turns.{greatest-apart, greatest-along}
-use Rattle.ways.proofs.greatest_by.Statement.{statement}
-use Rattle.ways.proofs.greatest_by.Tie as tie
+use Rattle.terms.proofs.Turns.{greatest-apart, greatest-along}
+use Rattle.terms.proofs.greatest_by.Statement.{statement}
+use Rattle.terms.proofs.greatest_by.Tie as tie
 
 along-requires : tie.Need-along-requires
 along-requires c κs = search needs

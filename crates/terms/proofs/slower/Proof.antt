@@ -1,8 +1,8 @@
 -- `ways::slower` meets its contract.
 use borrow.Author.Needs.{needs}
-use Rattle.ways.proofs.Turns.{slower-later, slower-earlier}
-use Rattle.ways.proofs.slower.Statement.{statement}
-use Rattle.ways.proofs.slower.Tie as tie
+use Rattle.terms.proofs.Turns.{slower-later, slower-earlier}
+use Rattle.terms.proofs.slower.Statement.{statement}
+use Rattle.terms.proofs.slower.Tie as tie
 
 cost-requires : tie.Need-cost-requires
 cost-requires c κs = search needs

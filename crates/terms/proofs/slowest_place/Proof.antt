@@ -3,10 +3,10 @@ use mathlib.Core.Path.{_≡_}
 use Prim.Native.Nat.{_+_, _-_, _≤_}
 use native.Mathlib.Omega.{arith}
 use borrow.Author.Needs.{needs}
-use Rattle.ways.specs.Whole.{slowestTo}
-use Rattle.ways.proofs.Turns.{slower-most, slowest-more, slowest-end}
-use Rattle.ways.proofs.slowest_place.Statement.{statement}
-use Rattle.ways.proofs.slowest_place.Tie as tie
+use Rattle.terms.specs.Whole.{slowestTo}
+use Rattle.terms.proofs.Turns.{slower-most, slowest-more, slowest-end}
+use Rattle.terms.proofs.slowest_place.Statement.{statement}
+use Rattle.terms.proofs.slowest_place.Tie as tie
 
 abbrev Inv-loop : tie.InvT-loop
 Inv-loop net a p s₀ k₀ s k = (k ≤ p) × (s ≤ k) × (s ≡ slowestTo net a k)

@@ -1,0 +1,3 @@
+-- The laws of `terms`.
+pub mod Turns
+pub mod Whole

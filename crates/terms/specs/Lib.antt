@@ -1,0 +1,3 @@
+-- The definitions of `terms`.
+pub mod Terms
+pub mod Whole
