@@ -10,7 +10,8 @@ use lib.Seq.{getD-set-same, getD-set-other, getD-at}
 use Rattle.least.specs.Lists.{values}
 use Rattle.least.proofs.Count.{le-or-lt}
 use Rattle.blocks.specs.Sheet.{nodeSlot, blockAt, entriesIn, entryAt, Small, Fit}
-use Rattle.sheets.specs.Fields.{Entry, noEntry, EntryIs, Listed}
+use Rattle.entries.specs.Fields.{Entry, noEntry}
+use Rattle.sheets.specs.Fields.{EntryIs, Listed}
 use Rattle.sheets.specs.Blocks.{blockSize, beginOf, Frame, Appended, entryFrom, GrownAt, Grown, Roomy}
 
 -- no number stands in two blocks

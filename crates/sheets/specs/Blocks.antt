@@ -12,7 +12,8 @@ use Rattle.crossings.specs.Pairs.{placeOn, Noted}
 use Rattle.ways.specs.Ways.{baseOf, WaysAre}
 use Rattle.blocks.specs.Sheet.{blockAt, added, entriesIn, Small, Fit}
 use Rattle.starts.specs.Runs.{Low}
-use Rattle.sheets.specs.Fields.{Entry, upTo, entriesTo, EntryIs, Listed, addedOf}
+use Rattle.entries.specs.Fields.{Entry, upTo, entriesTo, addedOf}
+use Rattle.sheets.specs.Fields.{EntryIs, Listed}
 
 -- a head, and room for n entries
 abbrev pub blockSize : ℕ → ℕ

@@ -1,4 +1,4 @@
--- The entries of a sheet at a node add up to the rules' terms 1 and 2, and i's packets after its first. Assumes nothing.
+-- The entries of a flow at a node add up to the rules' terms 1 and 2, and i's packets after its first. Assumes nothing.
 use mathlib.Core.Path.{_≡_, refl, sym, ap, ap₂, _∙_, subst}
 use mathlib.Core.Bool.{Bool, true, false, not}
 use mathlib.Core.Logic.{inl, inr}
@@ -7,7 +7,7 @@ use Prim.Native.Nat.{ℕ, zero, suc, _+_, _*_, _≤_, _<_}
 use native.Mathlib.Omega.{arith}
 use native.Mathlib.Nat.{add-zero, mul-zero, le-refl}
 use lib.Dec.{eqb}
-use lib.ListN.{length, getD}
+use lib.ListN.{length}
 use borrow.Author.Tests.{ne-eqb}
 use Rattle.least.specs.Count.{pick, count}
 use Rattle.least.specs.Fold.{sumTo, sumOf, anyOf}
@@ -20,9 +20,9 @@ use Rattle.rules.proofs.Path.{prefix-visits, visits-here, visits-there, visits-
 use Rattle.rules.proofs.Shared.{shared, slowest-shared, first-of-shared, first-on-shared, last-on-shared, uncrossed-nothing}
 use Rattle.nets.specs.Nets.{noFlow, flowAt, positionOf}
 use Rattle.nets.proofs.Sets.{flow-here, one-place, one-flow, own-role, own-number}
-use Rattle.blocks.specs.Sheet.{hereSlot, instantSlot, nodeSlot, entriesIn, entryAt, termOf, seen}
-use Rattle.sheets.specs.Fields.{Entry, noEntry, termBy, arrivalBy, entryOf, counted, entriesTo, EntryIs, Listed, responsesIn}
-use Rattle.sheets.proofs.Places.{arrival-is}
+use Rattle.blocks.specs.Sheet.{hereSlot, instantSlot, nodeSlot, seen}
+use Rattle.entries.specs.Fields.{Entry, termBy, arrivalBy, entryOf, counted, entriesTo, responsesIn}
+use Rattle.entries.proofs.Places.{arrival-is}
 
 -- flows that meet: the first node of one on the other is on both
 pub first-visited : (a b : List Hop) → crosses b a ≡ true → (visits a (firstOn a b) ≡ true) × (visits b (firstOn a b) ≡ true)
@@ -60,17 +60,6 @@ isOwn Lower = false
 no-weight : (v : ℕ → ℕ) (x : Entry) → x .weight ≡ 0 → termBy v x ≡ 0
 unfolding termBy
 no-weight v x e = rw e (mul-zero (count (v (x .look) + x .plus) (x .less) (x .period)))
-
--- the entries of a block add up to those listed
-module _ (e : List ℕ) (v : ℕ → ℕ) where
-  term-is : (k : ℕ) (x : Entry) → EntryIs e k x → termOf e v k ≡ termBy v x
-  unfolding termOf termBy
-  term-is k x at = rw (at .look, at .plus, at .less, at .period, at .weight)
-
-  pub listed-sum : (p : ℕ) (l : List Entry) → Listed e p l → sumTo (entriesIn e p) (λ q. termOf e v (entryAt e p q)) ≡ sumOf (termBy v) l
-  listed-sum p l is =
-      ap (λ n. sumTo n (λ q. termOf e v (entryAt e p q))) (is .count)
-      ∙ sum-to-ext (length l) _ _ (λ q on. term-is (entryAt e p q) (getD l q noEntry) (is .each q on)) ∙ sum-to-list (termBy v) l noEntry
 
 module _ (N : Net) (val : Valid N) (w : ℕ) (r : ℕ → ℕ) (a : ℕ) (here : a < length (N .flows)) (h : ℕ) where
   abbrev i : Flow

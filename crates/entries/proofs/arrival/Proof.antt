@@ -1,4 +1,4 @@
--- `sheets::arrival` meets its contract.
+-- `entries::arrival` meets its contract.
 use mathlib.Core.Path.{refl}
 use Prim.Native.Nat.{_+_, _-_, _*_, _≤_, _<_}
 use native.Mathlib.Omega.{arith}
@@ -6,9 +6,9 @@ use lib.ListN.{length}
 use borrow.Author.Needs.{needs}
 use Rattle.least.specs.Lists.{values}
 use Rattle.nets.specs.Nets.{countIn}
-use Rattle.sheets.proofs.Writing.{place-fits, place-inside, arrival-first, arrival-later}
-use Rattle.sheets.proofs.arrival.Statement.{statement}
-use Rattle.sheets.proofs.arrival.Tie as tie
+use Rattle.entries.proofs.Picks.{place-fits, place-inside, arrival-first, arrival-later}
+use Rattle.entries.proofs.arrival.Statement.{statement}
+use Rattle.entries.proofs.arrival.Tie as tie
 
 fits : (c : tie.After-room) → c .before .before .before .before .before .args .b * c .room .result ≤ 3969
 fits c = place-fits (c .before .before .before .before .before .args .b) (c .room .result) (omega arith) (c .room .ensures .1)

@@ -9,7 +9,7 @@ use Rattle.nets.specs.Nets.{roomIn, lengthIn, fieldIn, hopIn, flowIn, netIn}
 use Rattle.crossings.specs.Pairs.{placeOn, costOn}
 use Rattle.ways.specs.Ways.{sminTo, wayTo}
 use Rattle.blocks.specs.Sheet.{hereSlot, instantSlot, nodeSlot}
-use Rattle.sheets.specs.Fields.{Entry}
+use Rattle.entries.specs.Fields.{Entry}
 
 -- S of flow b at place q of its path, with the response bounds r
 unfoldable pub arrivalAt : List ℕ → (ℕ → ℕ) → ℕ → ℕ → ℕ

@@ -28,8 +28,8 @@ use Rattle.crossings.proofs.Turns.{least-shared, first-shared}
 use Rattle.crossings.proofs.Costs.{slowest-to, own-cost, own-slowest}
 use Rattle.ways.specs.Ways.{sminTo, wayTo}
 use Rattle.blocks.specs.Sheet.{hereSlot, nodeSlot}
-use Rattle.sheets.specs.Fields.{upTo, Entry, arrivalBy, entryOf, counted, addedOf}
-use Rattle.sheets.specs.Rows.{arrivalAt, lastTo, nearTo, higherAt, equalAt, ownAt}
+use Rattle.entries.specs.Fields.{upTo, Entry, arrivalBy, entryOf, counted, addedOf}
+use Rattle.entries.specs.Rows.{arrivalAt, lastTo, nearTo, higherAt, equalAt, ownAt}
 
 -- the last node shared is the new one, if it is shared
 last-snoc : (k : Hop) (h : ℕ) (P b : List Hop) → lastOn h (P ++ (k ∷ [])) b ≡ pick (visits b (k .node)) (k .node) (lastOn h P b)

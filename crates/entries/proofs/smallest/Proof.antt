@@ -1,10 +1,10 @@
--- `sheets::smallest` meets its contract.
+-- `entries::smallest` meets its contract.
 use mathlib.Core.Path.{ap, _∙_}
 use borrow.Author.Needs.{needs}
 use Rattle.nets.specs.Nets.{flowIn, netIn}
 use Rattle.ways.specs.Ways.{sminTo}
-use Rattle.sheets.proofs.smallest.Statement.{statement}
-use Rattle.sheets.proofs.smallest.Tie as tie
+use Rattle.entries.proofs.smallest.Statement.{statement}
+use Rattle.entries.proofs.smallest.Tie as tie
 
 place-requires : tie.Need-place-requires
 place-requires c κs = search needs

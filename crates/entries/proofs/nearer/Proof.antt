@@ -1,10 +1,10 @@
--- `sheets::nearer` meets its contract.
+-- `entries::nearer` meets its contract.
 use native.Mathlib.Omega.{arith}
 use borrow.Author.Needs.{needs}
 use Rattle.crossings.specs.Pairs.{placeOn}
-use Rattle.sheets.proofs.Writing.{pick-below, pick-above}
-use Rattle.sheets.proofs.nearer.Statement.{statement}
-use Rattle.sheets.proofs.nearer.Tie as tie
+use Rattle.entries.proofs.Picks.{pick-below, pick-above}
+use Rattle.entries.proofs.nearer.Statement.{statement}
+use Rattle.entries.proofs.nearer.Tie as tie
 
 place-requires : tie.Need-place-requires
 place-requires c κs = search needs

@@ -19,7 +19,7 @@ use Rattle.rules.proofs.Path.{visits-cases}
 use Rattle.nets.specs.Nets.{noHop, noFlow, flowAt, positionOf}
 use Rattle.nets.proofs.Places.{member-at, position-below, position-at}
 use Rattle.nets.proofs.Sets.{flow-here, one-flow}
-use Rattle.sheets.specs.Fields.{arrivalBy, placeIn, responsesIn}
+use Rattle.entries.specs.Fields.{arrivalBy, placeIn, responsesIn}
 
 -- where numbers rise, a flow's place is found by its number
 pub place-at : (l : List Flow) → RisingNumbers l → (a : ℕ) → a < length l → placeIn (getD l a noFlow .number) l ≡ a

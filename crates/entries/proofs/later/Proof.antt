@@ -1,11 +1,11 @@
--- `sheets::later` meets its contract.
+-- `entries::later` meets its contract.
 use native.Mathlib.Omega.{arith}
 use borrow.Author.Needs.{needs}
 use Rattle.nets.specs.Nets.{lengthIn}
 use Rattle.crossings.specs.Pairs.{placeOn}
-use Rattle.sheets.proofs.Writing.{pick-below, pick-above}
-use Rattle.sheets.proofs.later.Statement.{statement}
-use Rattle.sheets.proofs.later.Tie as tie
+use Rattle.entries.proofs.Picks.{pick-below, pick-above}
+use Rattle.entries.proofs.later.Statement.{statement}
+use Rattle.entries.proofs.later.Tie as tie
 
 place-requires : tie.Need-place-requires
 place-requires c κs = search needs

@@ -1,12 +1,12 @@
--- `sheets::look_at` meets its contract.
+-- `entries::look_at` meets its contract.
 use mathlib.Core.Path.{_≡_, _∙_}
 use Prim.Native.Nat.{_+_}
 use native.Mathlib.Omega.{arith}
 use borrow.Author.Needs.{needs}
 use Rattle.blocks.specs.Sheet.{hereSlot, nodeSlot}
-use Rattle.sheets.proofs.Writing.{pick-same, pick-other}
-use Rattle.sheets.proofs.look_at.Statement.{statement}
-use Rattle.sheets.proofs.look_at.Tie as tie
+use Rattle.entries.proofs.Picks.{pick-same, pick-other}
+use Rattle.entries.proofs.look_at.Statement.{statement}
+use Rattle.entries.proofs.look_at.Tie as tie
 
 returns : tie.Need-returns
 returns c = let s = c .before .args in (pick-same (s .last) (s .p) hereSlot (nodeSlot (s .last)) (search needs), search needs)

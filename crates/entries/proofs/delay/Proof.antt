@@ -1,11 +1,11 @@
--- `sheets::delay` meets its contract.
+-- `entries::delay` meets its contract.
 use mathlib.Core.Path.{ap}
 use native.Mathlib.Omega.{arith}
 use borrow.Author.Needs.{needs}
 use Rattle.least.specs.Lists.{values}
-use Rattle.sheets.specs.Rows.{arrivalAt}
-use Rattle.sheets.proofs.delay.Statement.{statement}
-use Rattle.sheets.proofs.delay.Tie as tie
+use Rattle.entries.specs.Rows.{arrivalAt}
+use Rattle.entries.proofs.delay.Statement.{statement}
+use Rattle.entries.proofs.delay.Tie as tie
 
 jitter-requires : tie.Need-jitter-requires
 jitter-requires c κs = search needs
