@@ -17,8 +17,8 @@ use Rattle.rules.proofs.Shared.{shared, slowest-shared, uncrossed-nothing}
 use Rattle.nets.specs.Nets.{countIn, flowIn, flowsIn, netIn}
 use Rattle.nets.proofs.Reading.{flows-length, flow-at}
 use Rattle.nets.proofs.Sets.{flow-here, one-flow, own-role}
-use Rattle.sheets.specs.Fields.{placeIn}
-use Rattle.sheets.proofs.Places.{place-at}
+use Rattle.entries.specs.Fields.{placeIn}
+use Rattle.entries.proofs.Places.{place-at}
 use Rattle.rounds.specs.Reading.{equal, readsOf, readsOwn, readsFlow, Unread}
 
 -- a crossing of i that weighs is that of a flow of the net which crosses i

@@ -27,8 +27,8 @@ use Rattle.rules.proofs.Agree.{response-agree}
 use Rattle.nets.specs.Nets.{noFlow, flowAt, nodeAt, positionOf}
 use Rattle.nets.proofs.Places.{visits-at, position-below, position-node, position-at}
 use Rattle.nets.proofs.Sets.{flow-here}
-use Rattle.sheets.specs.Fields.{responsesIn}
-use Rattle.sheets.proofs.Places.{place-at}
+use Rattle.entries.specs.Fields.{responsesIn}
+use Rattle.entries.proofs.Places.{place-at}
 use Rattle.rounds.specs.Reading.{Unread}
 use Rattle.settle.specs.Good.{arrivalsIn, held, due, Good, Rests}
 

@@ -24,7 +24,7 @@ use Rattle.nets.proofs.Reading.{path-length, flows-length, flow-at}
 use Rattle.nets.proofs.Sets.{flow-here}
 use Rattle.starts.specs.Runs.{mostTime, ResponsesAre}
 use Rattle.least.proofs.Stores.{set-cases}
-use Rattle.sheets.specs.Fields.{SheetIs}
+use Rattle.sheets.specs.Sheets.{SheetIs}
 use Rattle.sheets.proofs.Whole.{responded, responded-past}
 use Rattle.rounds.specs.Reading.{readsFlow, Unread}
 use Rattle.settle.specs.Good.{due}

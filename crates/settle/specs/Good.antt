@@ -12,7 +12,7 @@ use Rattle.rules.specs.Judge.{response}
 use Rattle.rules.specs.Ready.{next}
 use Rattle.least.specs.Lists.{values}
 use Rattle.nets.specs.Nets.{flowAt, nodeAt}
-use Rattle.sheets.specs.Fields.{responsesIn}
+use Rattle.entries.specs.Fields.{responsesIn}
 
 -- the arrival bounds that response bounds give; w is the room for nodes that each flow has
 abbrev pub arrivalsIn : Net → ℕ → List ℕ → Arrivals

@@ -5,10 +5,12 @@ use mathlib.Core.List.{List}
 use Prim.Native.Nat.{ℕ, _+_, _-_, _*_, _<_}
 use native.Mathlib.Omega.{arith}
 use native.Mathlib.Nat.{le-refl}
-use lib.ListN.{length}
+use lib.ListN.{length, getD}
+use Rattle.least.specs.Fold.{sumTo, sumOf}
 use Rattle.least.specs.Lists.{values}
 use Rattle.least.specs.Fixed.{Least}
 use Rattle.least.proofs.Count.{count-after}
+use Rattle.least.proofs.Fold.{sum-to-ext, sum-to-list}
 use Rattle.least.proofs.Fixed.{least-ext}
 use Rattle.least.proofs.Instants.{best-ext}
 use Rattle.rules.specs.Net.{Flow, Net}
@@ -21,12 +23,25 @@ use Rattle.rules.proofs.Start.{sum-rising, meant-starts, start-unique, start-is
 use Rattle.rules.proofs.Exact.{cost-slowest}
 use Rattle.nets.specs.Nets.{flowAt, nodeAt, positionOf}
 use Rattle.nets.proofs.Places.{visits-at, position-node, prefix-at}
-use Rattle.ways.specs.Ways.{baseOf}
-use Rattle.blocks.specs.Sheet.{added, sheetSum, seen, sums}
-use Rattle.starts.specs.Runs.{StartsOf, Maxima, ResponsesAre}
-use Rattle.sheets.specs.Fields.{upTo, Entry, entriesTo, Listed, addedOf, SheetIs, responsesIn}
 use Rattle.nets.proofs.Sets.{flow-here}
-use Rattle.sheets.proofs.Link.{listed-sum, entries-sum}
+use Rattle.terms.specs.Terms.{baseOf}
+use Rattle.blocks.specs.Sheet.{entriesIn, entryAt, added, termOf, sheetSum, seen, sums}
+use Rattle.starts.specs.Runs.{StartsOf, Maxima, ResponsesAre}
+use Rattle.frames.specs.Frames.{Entry, noEntry, EntryIs, Listed}
+use Rattle.entries.specs.Fields.{upTo, termBy, entriesTo, addedOf, responsesIn}
+use Rattle.sheets.specs.Sheets.{SheetIs}
+use Rattle.entries.proofs.Link.{entries-sum}
+
+-- the entries of a block add up to those listed
+module _ (e : List ℕ) (v : ℕ → ℕ) where
+  term-is : (k : ℕ) (x : Entry) → EntryIs e k x → termOf e v k ≡ termBy v x
+  unfolding termOf termBy
+  term-is k x at = rw (at .look, at .plus, at .less, at .period, at .weight)
+
+  listed-sum : (p : ℕ) (l : List Entry) → Listed e p l → sumTo (entriesIn e p) (λ q. termOf e v (entryAt e p q)) ≡ sumOf (termBy v) l
+  listed-sum p l is =
+      ap (λ n. sumTo n (λ q. termOf e v (entryAt e p q))) (is .count)
+      ∙ sum-to-ext (length l) _ _ (λ q on. term-is (entryAt e p q) (getD l q noEntry) (is .each q on)) ∙ sum-to-list (termBy v) l noEntry
 
 module _ (N : Net) (val : Valid N) (w : ℕ) (r : ℕ → ℕ) (a : ℕ) (here : a < length (N .flows)) (e : List ℕ) (sheet : SheetIs N w r a e) where
   abbrev i : Flow

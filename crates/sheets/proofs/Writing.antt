@@ -3,16 +3,15 @@ use mathlib.Core.Path.{_≡_, refl, sym, ap, ap₂, _∙_, subst}
 use mathlib.Core.Bool.{Bool, true, false, not}
 use mathlib.Core.Logic.{inl, inr}
 use mathlib.Core.List.{List, [], _∷_, _++_}
-use Prim.Native.Nat.{ℕ, zero, suc, _+_, _-_, _*_, _≤_, _<_}
+use Prim.Native.Nat.{ℕ, zero, suc, _+_, _*_, _≤_, _<_}
 use native.Mathlib.Numerals.{add-one}
-use native.Mathlib.Nat.{mul-le-mul, mul-le-mul-right}
 use native.Mathlib.Omega.{arith}
 use lib.Dec.{ltb, eqb}
 use lib.ListN.{length, getD, take, List·getD-eq-default}
-use borrow.Author.Tests.{eq-eqb, ne-eqb, lt-ltb, le-ltb, ltb-true, ltb-false}
+use borrow.Author.Tests.{lt-ltb, le-ltb, ltb-true, ltb-false}
 use Rattle.least.specs.Count.{pick}
 use Rattle.least.specs.Fold.{maxTo}
-use Rattle.least.specs.Lists.{values, First}
+use Rattle.least.specs.Lists.{First}
 use Rattle.least.proofs.Count.{le-or-lt}
 use Rattle.rules.specs.Net.{Hop, Flow, Net}
 use Rattle.rules.specs.Formula.{Role, Own, Higher, Equal, Lower, both, role, lower}
@@ -21,49 +20,15 @@ use Rattle.nets.specs.Nets.{few, countIn, roomIn, lengthIn, fieldIn, hopIn, pat
 use Rattle.nets.proofs.Reading.{path-length, path-at, flows-length, flow-at}
 use Rattle.crossings.specs.Pairs.{placeOn, costOn, sideNumber}
 use Rattle.crossings.proofs.Noting.{place-most}
-use Rattle.ways.specs.Ways.{baseOf, sminTo, wayTo}
+use Rattle.terms.specs.Terms.{baseOf, sminTo, wayTo}
 use Rattle.blocks.specs.Sheet.{hereSlot, instantSlot, nodeSlot, Shaped}
-use Rattle.sheets.specs.Fields.{Entry, upTo, entryOf, counted, entriesTo, Listed, SheetIs}
-use Rattle.sheets.specs.Rows.{arrivalAt, lastTo, nearTo, weightTo, higherAt, equalAt, ownTo, ownAt}
-use Rattle.sheets.specs.Blocks.{blockSize, entryFrom, Grown, Roomy, fromOn, Joined, Filled}
-use Rattle.sheets.proofs.Blocks.{frame-less, kept-grown, Heads, heads-frame}
-use Rattle.sheets.proofs.Running.{upto-at, node-at, added-at, own-at, counted-own, counted-at, higher-at, equal-at}
-
-pub block-fits : (p n : ℕ) → p ≤ few → n ≤ few → p * blockSize n ≤ 20034
-block-fits p n h i = mul-le-mul {n₂ = 63} {m₂ = 318} h (omega arith)
-
-pub place-fits : (b w : ℕ) → b ≤ few → w ≤ few → b * w ≤ 3969
-place-fits b w h i = mul-le-mul {n₂ = 63} {m₂ = 63} h i
-
--- the response bound at the place before place q of flow b is there
-pub place-inside : (n w b q l : ℕ) → b < n → q ≤ w → (q ≡ 0 → ⊥) → n * w ≤ l → b * w + q - 1 < l
-place-inside n w b q l h i z g = omega (arith, mul-le-mul-right {m = b + 1} {n = n} w (omega arith))
-
--- what is picked by a test
-module _ {A : Type 0} (s t : ℕ) (p q : A) where
-  pub pick-below : s < t → p ≡ pick (ltb s t) p q
-  pick-below h = rw (lt-ltb s t h)
-
-  pub pick-above : t ≤ s → q ≡ pick (ltb s t) p q
-  pick-above h = rw (le-ltb s t h)
-
-  pub pick-same : s ≡ t → p ≡ pick (eqb s t) p q
-  pick-same h = rw (eq-eqb s t h)
-
-  pub pick-other : (s ≡ t → ⊥) → q ≡ pick (eqb s t) p q
-  pick-other h = rw (ne-eqb s t h)
-
-module _ (net : List ℕ) (r : ℕ → ℕ) (b q : ℕ) where
-  pub arrival-first : q ≡ 0 → 0 ≡ arrivalAt net r b q
-  unfolding arrivalAt
-  arrival-first h = pick-same q 0 0 (values net 3 + r (b * roomIn net + q - 1)) h
-
-  pub arrival-later : (x y w : ℕ) → (q ≡ 0 → ⊥) → x ≡ values net 3 → w ≡ roomIn net → y ≡ r (b * w + q - 1) → x + y ≡ arrivalAt net r b q
-  unfolding arrivalAt
-  arrival-later x y w h e f g =
-      let z : y ≡ r (b * roomIn net + q - 1) = g ∙ ap (λ w. r (b * w + q - 1)) f in
-      let s : x + y ≡ values net 3 + r (b * roomIn net + q - 1) = omega arith in
-      s ∙ pick-other q 0 0 (values net 3 + r (b * roomIn net + q - 1)) h
+use Rattle.frames.specs.Frames.{Entry, Listed, entryFrom, Grown, Roomy}
+use Rattle.entries.specs.Fields.{upTo, entryOf, counted, entriesTo}
+use Rattle.sheets.specs.Sheets.{SheetIs, fromOn, Joined, Filled}
+use Rattle.entries.specs.Rows.{arrivalAt, lastTo, nearTo, weightTo, higherAt, equalAt, ownTo, ownAt}
+use Rattle.entries.proofs.Running.{upto-at, node-at, added-at, own-at, counted-own, counted-at, higher-at, equal-at}
+use Rattle.entries.proofs.Picks.{pick-below, pick-above}
+use Rattle.frames.proofs.Frames.{frame-less, kept-grown, Heads, heads-frame}
 
 -- an entry from the first place shared on
 module _ (f : ℕ) (x : ℕ → Entry) (p : ℕ) where

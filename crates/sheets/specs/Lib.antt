@@ -1,4 +1,2 @@
 -- The definitions of `sheets`.
-pub mod Fields
-pub mod Rows
-pub mod Blocks
+pub mod Sheets

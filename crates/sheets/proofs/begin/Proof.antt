@@ -6,7 +6,7 @@ use lib.ListN.{length, length-set}
 use borrow.Author.Needs.{needs}
 use Rattle.rules.specs.Valid.{Valid}
 use Rattle.nets.specs.Nets.{countIn, lengthIn, netIn}
-use Rattle.sheets.proofs.Blocks.{long-less, Heads, heads-none, heads-more}
+use Rattle.frames.proofs.Frames.{long-less, Heads, heads-none, heads-more}
 use Rattle.sheets.proofs.Writing.{baseAt, addAt, heads-filled}
 use Rattle.sheets.proofs.begin.Statement.{statement}
 use Rattle.sheets.proofs.begin.Tie as tie

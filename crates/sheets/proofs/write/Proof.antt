@@ -5,7 +5,7 @@ use native.Mathlib.Omega.{arith}
 use lib.ListN.{length}
 use borrow.Author.Needs.{needs}
 use Rattle.least.specs.Lists.{values}
-use Rattle.sheets.specs.Blocks.{Filled}
+use Rattle.sheets.specs.Sheets.{Filled}
 use Rattle.sheets.proofs.Writing.{filled-sheet, filled-shaped}
 use Rattle.sheets.proofs.write.Statement.{statement}
 use Rattle.sheets.proofs.write.Tie as tie

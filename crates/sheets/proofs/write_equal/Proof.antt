@@ -9,9 +9,9 @@ use Rattle.least.proofs.Ranges.{max-to-next}
 use Rattle.rules.specs.Valid.{Valid}
 use Rattle.nets.specs.Nets.{countIn, lengthIn, netIn}
 use Rattle.crossings.specs.Pairs.{costOn}
-use Rattle.sheets.specs.Rows.{nearTo, weightTo, equalAt}
-use Rattle.sheets.specs.Blocks.{fromOn}
-use Rattle.sheets.proofs.Blocks.{frame-less, Going, going-from, going-end, going-room, going-more}
+use Rattle.entries.specs.Rows.{nearTo, weightTo, equalAt}
+use Rattle.sheets.specs.Sheets.{fromOn}
+use Rattle.frames.proofs.Frames.{frame-less, Going, going-from, going-end, going-room, going-more}
 use Rattle.sheets.proofs.Writing.{from-none, from-one, Shared, shared-first, near-more, weight-none, equal-made}
 use Rattle.sheets.proofs.write_equal.Statement.{statement}
 use Rattle.sheets.proofs.write_equal.Tie as tie

@@ -9,10 +9,10 @@ use Rattle.least.proofs.Ranges.{max-to-next}
 use Rattle.rules.specs.Valid.{Valid}
 use Rattle.nets.specs.Nets.{countIn, lengthIn, netIn}
 use Rattle.crossings.specs.Pairs.{costOn}
-use Rattle.sheets.specs.Rows.{lastTo, weightTo, higherAt}
-use Rattle.sheets.specs.Blocks.{fromOn}
-use Rattle.sheets.proofs.Blocks.{frame-less, Going, going-from, going-end, going-room, going-more}
-use Rattle.sheets.proofs.Running.{last-below}
+use Rattle.entries.specs.Rows.{lastTo, weightTo, higherAt}
+use Rattle.entries.proofs.Running.{last-below}
+use Rattle.sheets.specs.Sheets.{fromOn}
+use Rattle.frames.proofs.Frames.{frame-less, Going, going-from, going-end, going-room, going-more}
 use Rattle.sheets.proofs.Writing.{from-none, from-one, Shared, shared-first, last-more, weight-none, higher-made}
 use Rattle.sheets.proofs.write_higher.Statement.{statement}
 use Rattle.sheets.proofs.write_higher.Tie as tie

@@ -9,8 +9,8 @@ use Rattle.least.specs.Fold.{maxTo}
 use Rattle.least.proofs.Ranges.{max-to-next}
 use Rattle.rules.specs.Valid.{Valid}
 use Rattle.nets.specs.Nets.{countIn, lengthIn, hopIn, netIn}
-use Rattle.sheets.specs.Rows.{ownTo, ownAt}
-use Rattle.sheets.proofs.Blocks.{frame-less, Going, going-from, going-end, going-room, going-more}
+use Rattle.entries.specs.Rows.{ownTo, ownAt}
+use Rattle.frames.proofs.Frames.{frame-less, Going, going-from, going-end, going-room, going-more}
 use Rattle.sheets.proofs.Writing.{own-made}
 use Rattle.sheets.proofs.write_own.Statement.{statement}
 use Rattle.sheets.proofs.write_own.Tie as tie

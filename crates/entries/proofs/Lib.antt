@@ -1,0 +1,5 @@
+-- The laws of `entries`.
+pub mod Places
+pub mod Link
+pub mod Running
+pub mod Picks

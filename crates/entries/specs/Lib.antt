@@ -1,0 +1,3 @@
+-- The definitions of `entries`.
+pub mod Fields
+pub mod Rows

@@ -1,0 +1,2 @@
+-- The laws of `frames`.
+pub mod Frames

@@ -1,0 +1,2 @@
+-- The definitions of `frames`.
+pub mod Frames
