@@ -7,7 +7,7 @@ use Prim.Native.Nat.{ℕ, _+_, _≤_, _<_, max}
 use native.Mathlib.Omega.{arith}
 use native.Mathlib.Nat.{le-refl}
 use lib.Dec.{eqb}
-use lib.ListN.{length, set, length-set, drop}
+use lib.ListN.{length, set, drop}
 use lib.Seq.{getD-set-same, getD-set-other}
 use borrow.Author.Count.{below-more}
 use borrow.Author.Tests.{eqb-true, eqb-false, eq-eqb, ne-eqb}
@@ -22,7 +22,7 @@ use Rattle.nets.specs.Nets.{countIn, flowIn, flowsIn, noFlow}
 use Rattle.crossings.specs.Pairs.{sideNumber}
 use Rattle.crossings.proofs.Noting.{aside, own-aside, lower-aside}
 use Rattle.starts.specs.Runs.{mostTime, Low, LowTo}
-use Rattle.least.proofs.Stores.{set-cases}
+use Rattle.least.proofs.Stores.{set-cases, inside-none, inside-set, inside-then}
 use Rattle.rounds.specs.Reading.{equal, meetsEqual, readsOf, readsOwn, readsFlow}
 use Rattle.rounds.specs.Rounds.{RaisedIs, MarkedIs, ChosenIs}
 
@@ -37,11 +37,10 @@ module _ (replies best : List ℕ) (at m : ℕ) where
     few = omega arith;
     done = record {
       inside = λ k h. absurd (omega arith);
-      outside = λ x h. refl;
+      others = inside-none;
       still = λ z k h. absurd (omega arith);
       risen = λ z. absurd (z refl);
       low = low;
-      long = refl;
     };
   }
 
@@ -49,10 +48,10 @@ module _ (replies best : List ℕ) (at m : ℕ) where
       (t s v : ℕ) (flat : values best k ≤ values to (at + k) → t ≡ 0) (steep : values to (at + k) < values best k → t ≡ 1)
       (or : s ≡ max rose t) (is : v ≡ max (values to (at + k)) (values best k)) where
     was : values to (at + k) ≡ values replies (at + k)
-    was = i .done .outside (at + k) (inr (le-refl _))
+    was = i .done .others .behind (at + k) (le-refl _)
 
     within : at + k < length to
-    within = omega (arith, i .done .long)
+    within = omega (arith, i .done .others .long)
 
     stored : values (set to (at + k) v) (at + k) ≡ v
     stored = getD-set-same to (at + k) v 0 within
@@ -67,24 +66,15 @@ module _ (replies best : List ℕ) (at m : ℕ) where
         inside = below-more (λ j. values (set to (at + k) v) (at + j) ≡ max (values replies (at + j)) (values best j)) k
             (λ j h. unstored (at + j) (λ e. omega arith) ∙ i .done .inside j h)
             (omega (arith, stored, was));
-        outside = λ x h. unstored x (out x h) ∙ i .done .outside x (wider x h);
+        others = inside-then at (at + (k + 1)) (omega arith) (omega arith) (omega arith) (omega arith) (i .done .others) (inside-set to (at + k) v);
         still = λ z. below-more (λ j. values best j ≤ values replies (at + j)) k
             (i .done .still (omega arith))
             (low-stored z (le-or-lt (values best k) (values to (at + k))));
         risen = λ z. rises z (eqb rose 0) refl (le-or-lt (values best k) (values to (at + k)));
         low = set-cases (λ x w. w ≤ mostTime) to (at + k) v within (omega (arith, i .done .low (at + k), low-best k on)) (λ j q. i .done .low j);
-        long = simp length-set (i .done .long);
       };
     }
       where
-        out : (x : ℕ) → (x < at) ⊎ (at + (k + 1) ≤ x) → x ≡ at + k → ⊥
-        out x (inl h) e = omega arith
-        out x (inr h) e = omega arith
-
-        wider : (x : ℕ) → (x < at) ⊎ (at + (k + 1) ≤ x) → (x < at) ⊎ (at + k ≤ x)
-        wider x (inl h) = inl h
-        wider x (inr h) = inr (omega arith)
-
         low-stored : s ≡ 0 → (values best k ≤ values to (at + k)) ⊎ (values to (at + k) < values best k) → values best k ≤ values replies (at + k)
         low-stored z (inl h) = omega (arith, was)
         low-stored z (inr h) = absurd (omega (arith, steep h))
@@ -187,13 +177,13 @@ module _ (marks net : List ℕ) (a n : ℕ) where
   pub marking-start : Marking marks net a n marks 0
   marking-start = record {
     few = omega arith;
-    done = record { unread = λ b h z. refl; read = λ b h z. absurd (omega arith); rest = λ b h. refl; long = refl };
+    done = record { unread = λ b h z. refl; read = λ b h z. absurd (omega arith); others = inside-none };
   }
 
   module _ (room : n ≤ length marks) (to : List ℕ) (b : ℕ) (m : Marking marks net a n to b) (on : b < n) (v : ℕ)
       (kept : readsFlow net b a ≡ false → v ≡ values to b) (new : readsFlow net b a ≡ true → v ≡ 1) where
     here : values (set to b v) b ≡ v
-    here = getD-set-same to b v 0 (omega (arith, m .done .long))
+    here = getD-set-same to b v 0 (omega (arith, m .done .others .long))
 
     there : (k : ℕ) → (k ≡ b → ⊥) → values (set to b v) k ≡ values to k
     there k ne = getD-set-other to b k v 0 ne
@@ -204,12 +194,11 @@ module _ (marks net : List ℕ) (a n : ℕ) where
       done = record {
         unread = below-more (λ k. readsFlow net k a ≡ false → values (set to b v) k ≡ values marks k) b
             (λ k h z. there k (λ e. omega arith) ∙ m .done .unread k h z)
-            (λ z. here ∙ kept z ∙ m .done .rest b (le-refl b));
+            (λ z. here ∙ kept z ∙ m .done .others .behind b (le-refl b));
         read = below-more (λ k. readsFlow net k a ≡ true → values (set to b v) k ≡ 1) b
             (λ k h z. there k (λ e. omega arith) ∙ m .done .read k h z)
             (λ z. here ∙ new z);
-        rest = λ k h. there k (λ e. omega arith) ∙ m .done .rest k (omega arith);
-        long = simp length-set (m .done .long);
+        others = inside-then 0 (b + 1) (omega arith) (omega arith) (omega arith) (omega arith) (m .done .others) (inside-set to b v);
       };
     }
 

@@ -60,8 +60,8 @@ whole w m a n short h = omega (arith, mul-le-mul-right {m = a + 1} {n = n} w (om
 module _ (replies best : List ℕ) (at m : ℕ) (replies′ : List ℕ) (rose : ℕ) (raised : RaisedIs replies best at m replies′ rose) where
   by-place : (x : ℕ) → (values replies′ x ≡ values replies x) ⊎ ((x - at < m) × (at + (x - at) ≡ x))
   by-place x = elim (le-or-lt at x) [
-    | inl h ↦ elim (le-or-lt (at + m) x) [ inl g ↦ inl (raised .outside x (inr g)) | inr g ↦ inr (omega arith, omega arith) ]
-    | inr h ↦ inl (raised .outside x (inl h))
+    | inl h ↦ elim (le-or-lt (at + m) x) [ inl g ↦ inl (raised .others .behind x g) | inr g ↦ inr (omega arith, omega arith) ]
+    | inr h ↦ inl (raised .others .before x h)
   ]
 
   grows : (x : ℕ) → values replies x ≤ values replies′ x
@@ -71,7 +71,7 @@ module _ (replies best : List ℕ) (at m : ℕ) (replies′ : List ℕ) (rose : 
   ]
 
   still-same : rose ≡ 0 → replies′ ≡ replies
-  still-same z = ext-getD 0 replies′ replies (raised .long) (λ x h. at-place x)
+  still-same z = ext-getD 0 replies′ replies (raised .others .long) (λ x h. at-place x)
     where
       at-place : (x : ℕ) → values replies′ x ≡ values replies x
       at-place x = elim (by-place x) [
@@ -169,12 +169,15 @@ module _ {net busies replies marks : List ℕ} {a : ℕ} {sheet : List ℕ} {m :
 
     module _ {marks′ : List ℕ} (marked : MarkedIs (set marks a 0) net a (countIn net) marks′) where
       unraised : (b k : ℕ) → k < w → (b ≡ a → m ≤ k) → values replies′ (b * w + k) ≡ values replies (b * w + k)
-      unraised b k hk behind = raised .outside (b * w + k) (subst (λ c. (b * w + k < c) ⊎ (c + m ≤ b * w + k)) (sym first) (apart w m a b k (omega (arith, ran .long, short a)) hk behind))
+      unraised b k hk behind = elim (apart w m a b k (omega (arith, ran .long, short a)) hk behind) [
+        | inl h ↦ raised .others .before (b * w + k) (omega arith)
+        | inr h ↦ raised .others .behind (b * w + k) (omega arith)
+      ]
 
       module _ (fair : Fair net replies marks) where
         flags : (b : ℕ) → values marks′ b ≤ 1
         flags b = elim (le-or-lt (countIn net) b) [
-          | inl h ↦ omega (arith, marked .rest b h, unmarked-fair net replies marks a (ran .inside) fair .flags b)
+          | inl h ↦ omega (arith, marked .others .behind b h, unmarked-fair net replies marks a (ran .inside) fair .flags b)
           | inr h ↦ go h (readsFlow net b a) refl
         ]
           where

@@ -135,7 +135,7 @@ returns-2 c =
     let x = s .args in
     let q = c .before .before .before .raise in
     let first = ap (λ k. x .a * k) (c .before .before .before .before .room .ensures .0) in
-    (turn-still (ran (c .before .before .before .before .before .before .before .before .before .before .before .before .before .before)) (c .before .before .before .before .before .before .before .if1 .left) first (q .ensures) (c .if2 .taken), (kept-room (c .before .before .before .before .before .before .before .before .before .before .before .before .before .before) (q .ensures .long) (length-set (x .marks .now) (x .a) 0), still-fair (ran (c .before .before .before .before .before .before .before .before .before .before .before .before .before .before)) (c .before .before .before .before .before .before .before .if1 .left) first (q .ensures) (c .if2 .taken) (s .pre .4)))
+    (turn-still (ran (c .before .before .before .before .before .before .before .before .before .before .before .before .before .before)) (c .before .before .before .before .before .before .before .if1 .left) first (q .ensures) (c .if2 .taken), (kept-room (c .before .before .before .before .before .before .before .before .before .before .before .before .before .before) (q .ensures .others .long) (length-set (x .marks .now) (x .a) 0), still-fair (ran (c .before .before .before .before .before .before .before .before .before .before .before .before .before .before)) (c .before .before .before .before .before .before .before .if1 .left) first (q .ensures) (c .if2 .taken) (s .pre .4)))
 
 mark-requires : tie.Need-mark-requires
 mark-requires c κs =
@@ -146,7 +146,7 @@ same-length-13 : tie.Need-same-length-13
 same-length-13 c = search needs
 
 same-length-14 : tie.Need-same-length-14
-same-length-14 c = c .before .before .mark .ensures .long ∙ length-set (c .before .before .before .before .before .before .before .before .before .before .before .before .before .before .before .before .before .before .before .before .before .before .before .before .before .before .before .before .before .before .before .before .before .before .before .before .before .before .before .before .before .args .marks .now) (c .before .before .before .before .before .before .before .before .before .before .before .before .before .before .before .before .before .before .before .before .before .before .before .before .before .before .before .before .before .before .before .before .before .before .before .before .before .before .before .before .before .args .a) 0
+same-length-14 c = c .before .before .mark .ensures .others .long ∙ length-set (c .before .before .before .before .before .before .before .before .before .before .before .before .before .before .before .before .before .before .before .before .before .before .before .before .before .before .before .before .before .before .before .before .before .before .before .before .before .before .before .before .before .args .marks .now) (c .before .before .before .before .before .before .before .before .before .before .before .before .before .before .before .before .before .before .before .before .before .before .before .before .before .before .before .before .before .before .before .before .before .before .before .before .before .before .before .before .before .args .a) 0
 
 same-length-15 : tie.Need-same-length-15
 same-length-15 c = search needs
@@ -167,7 +167,7 @@ returns-3 c =
     let q = c .before .before .before .before .before .before .before .raise in
     let k = c .before .before .mark in
     let first = ap (λ k. x .a * k) (c .before .before .before .before .before .before .before .before .room .ensures .0) in
-    (turn-raised (ran (c .before .before .before .before .before .before .before .before .before .before .before .before .before .before .before .before .before .before)) (c .before .before .before .before .before .before .before .before .before .before .before .if1 .left) first (q .ensures) (k .ensures) (s .pre .4) (c .before .before .before .before .if2 .left), (kept-room (c .before .before .before .before .before .before .before .before .before .before .before .before .before .before .before .before .before .before) (q .ensures .long) (k .ensures .long ∙ length-set (x .marks .now) (x .a) 0), raised-fair (ran (c .before .before .before .before .before .before .before .before .before .before .before .before .before .before .before .before .before .before)) (c .before .before .before .before .before .before .before .before .before .before .before .if1 .left) first (q .ensures) (k .ensures) (s .pre .4)))
+    (turn-raised (ran (c .before .before .before .before .before .before .before .before .before .before .before .before .before .before .before .before .before .before)) (c .before .before .before .before .before .before .before .before .before .before .before .if1 .left) first (q .ensures) (k .ensures) (s .pre .4) (c .before .before .before .before .if2 .left), (kept-room (c .before .before .before .before .before .before .before .before .before .before .before .before .before .before .before .before .before .before) (q .ensures .others .long) (k .ensures .others .long ∙ length-set (x .marks .now) (x .a) 0), raised-fair (ran (c .before .before .before .before .before .before .before .before .before .before .before .before .before .before .before .before .before .before)) (c .before .before .before .before .before .before .before .before .before .before .before .if1 .left) first (q .ensures) (k .ensures) (s .pre .4)))
 
 pub turn-spec : {M : Type 1} → statement M
 turn-spec =
