@@ -9,6 +9,7 @@ use lib.ListN.{length, getD, set, length-append, length-set, List·getD-append}
 use lib.Seq.{getD-set-same, getD-set-other, getD-at}
 use Rattle.least.specs.Lists.{values}
 use Rattle.least.proofs.Count.{le-or-lt}
+use Rattle.least.proofs.Stores.{set-cases}
 use Rattle.nets.specs.Nets.{few}
 use Rattle.blocks.specs.Sheet.{nodeSlot, blockAt, entriesIn, entryAt, Small, Fit}
 use Rattle.frames.specs.Frames.{Entry, noEntry, EntryIs, Listed, blockSize, beginOf, Frame, Appended, entryFrom, GrownAt, Grown, Roomy}
@@ -35,13 +36,7 @@ frame-less {n} {m} {e} p h f = record {
 }
 
 pub small-set : (l : List ℕ) (i x : ℕ) → i < length l → x < 16777216 → Small l → Small (set l i x)
-small-set l i x h q s k = elim (le-or-lt k i) [
-  | inl u ↦ elim (le-or-lt i k) [
-    | inl v ↦ let z : k ≡ i = omega arith in rw z (omega (arith, getD-set-same l i x 0 h))
-    | inr v ↦ omega (arith, getD-set-other l i k x 0 (λ z. omega arith), s k)
-  ]
-  | inr u ↦ omega (arith, getD-set-other l i k x 0 (λ z. omega arith), s k)
-]
+small-set l i x h q s = set-cases (λ k v. v < 16777216) l i x h q (λ k d. s k)
 
 -- at most the numbers of block p are others
 abbrev pub Within : ℕ → ℕ → List ℕ → List ℕ → Type 0
