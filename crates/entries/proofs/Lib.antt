@@ -2,4 +2,4 @@
 pub mod Places
 pub mod Link
 pub mod Running
-pub mod Picks
+pub mod Rows

@@ -5,21 +5,24 @@ use mathlib.Core.Logic.{inl, inr}
 use mathlib.Core.List.{List, [], _∷_, List·Memᴰ}
 use Prim.Native.Nat.{ℕ, zero, suc, _+_, _-_, _*_, _≤_, _<_}
 use native.Mathlib.Omega.{arith}
-use native.Mathlib.Nat.{le-refl}
+use native.Mathlib.Nat.{le-refl, mul-le-mul, mul-le-mul-right}
 use lib.Dec.{eqb}
 use lib.ListN.{length, getD}
 use borrow.Author.Tests.{eq-eqb, eqb-true, eqb-false, ne-eqb}
 use Rattle.least.specs.Count.{pick}
+use Rattle.least.specs.Lists.{values}
 use Rattle.least.specs.Fold.{maxOf}
+use Rattle.least.proofs.Count.{pick-same, pick-other}
 use Rattle.least.proofs.Fold.{false-true, max-at, max-under}
 use Rattle.rules.specs.Net.{Hop, Flow, Net}
 use Rattle.rules.specs.Formula.{visits, before, arriving, arrivals}
 use Rattle.rules.specs.Valid.{RisingNumbers, Valid}
 use Rattle.rules.proofs.Path.{visits-cases}
-use Rattle.nets.specs.Nets.{noHop, noFlow, flowAt, positionOf}
+use Rattle.nets.specs.Nets.{few, roomIn, noHop, noFlow, flowAt, positionOf}
 use Rattle.nets.proofs.Places.{member-at, position-below, position-at}
 use Rattle.nets.proofs.Sets.{flow-here, one-flow}
 use Rattle.entries.specs.Fields.{arrivalBy, placeIn, responsesIn}
+use Rattle.entries.specs.Rows.{arrivalAt}
 
 -- where numbers rise, a flow's place is found by its number
 pub place-at : (l : List Flow) → RisingNumbers l → (a : ℕ) → a < length l → placeIn (getD l a noFlow .number) l ≡ a
@@ -107,3 +110,23 @@ arrival-is N v w r b on h vis =
         let place : placeIn (j .number) (N .flows) * w + positionOf node (j .path) ≡ b * w + pos - 1 =
         omega (arith, ap (λ k. k * w) (place-at (N .flows) (v .rising) b on)) in
         omega (arith, ap r place)
+
+-- a place in the response bounds of all flows
+pub place-fits : (b w : ℕ) → b ≤ few → w ≤ few → b * w ≤ 3969
+place-fits b w h i = mul-le-mul {n₂ = 63} {m₂ = 63} h i
+
+-- the response bound at the place before place q of flow b is there
+pub place-inside : (n w b q l : ℕ) → b < n → q ≤ w → (q ≡ 0 → ⊥) → n * w ≤ l → b * w + q - 1 < l
+place-inside n w b q l h i z g = omega (arith, mul-le-mul-right {m = b + 1} {n = n} w (omega arith))
+
+module _ (net : List ℕ) (r : ℕ → ℕ) (b q : ℕ) where
+  pub arrival-first : q ≡ 0 → 0 ≡ arrivalAt net r b q
+  unfolding arrivalAt
+  arrival-first h = pick-same q 0 0 (values net 3 + r (b * roomIn net + q - 1)) h
+
+  pub arrival-later : (x y w : ℕ) → (q ≡ 0 → ⊥) → x ≡ values net 3 → w ≡ roomIn net → y ≡ r (b * w + q - 1) → x + y ≡ arrivalAt net r b q
+  unfolding arrivalAt
+  arrival-later x y w h e f g =
+      let z : y ≡ r (b * roomIn net + q - 1) = g ∙ ap (λ w. r (b * w + q - 1)) f in
+      let s : x + y ≡ values net 3 + r (b * roomIn net + q - 1) = omega arith in
+      s ∙ pick-other q 0 0 (values net 3 + r (b * roomIn net + q - 1)) h

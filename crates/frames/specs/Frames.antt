@@ -4,7 +4,7 @@ use mathlib.Core.List.{List, _++_}
 use Prim.Native.Nat.{ℕ, _+_, _*_, _≤_, _<_}
 use lib.ListN.{length, getD}
 use Rattle.least.specs.Lists.{values}
-use Rattle.blocks.specs.Sheet.{blockAt, added, entriesIn, entryAt, Small, Fit}
+use Rattle.blocks.specs.Sheet.{headSize, entrySize, blockAt, added, entriesIn, entryAt, Small, Fit}
 
 pub record Entry : Type 0 where
   pub look : ℕ
@@ -31,7 +31,7 @@ pub record Listed (e : List ℕ) (p : ℕ) (l : List Entry) : Type 0 where
 
 -- a head, and room for n entries
 abbrev pub blockSize : ℕ → ℕ
-blockSize n = 3 + 5 * n
+blockSize n = headSize + entrySize * n
 
 -- m blocks
 pub record Frame (n m : ℕ) (e : List ℕ) : Type 0 where

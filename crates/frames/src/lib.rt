@@ -6,12 +6,12 @@ ghost use Prim.Native.Nat.{_+_, _*_, _<_, _≤_};
 ghost use lib.ListN.{length};
 ghost use Rattle.nets.specs.Nets.{few, Whole, countIn};
 ghost use Rattle.blocks.specs.Sheet.{nodeSlot, entriesIn};
-ghost use Rattle.frames.specs.Frames.{blockSize, Frame, Appended, entryFrom};
+ghost use Rattle.frames.specs.Frames.{beginOf, Frame, Appended, entryFrom};
 
 // Where the block of place p begins: each has room for an entry of every flow.
 pub fn block(net: &[u16], p: usize) -> usize
     requires { ⌜ Whole (now net) × (p ≤ few) ⌝ }
-    ensures { λ r. ⌜ r ≡ 1 + p * blockSize (countIn (now (net .entry))) ⌝ }
+    ensures { λ r. ⌜ r ≡ beginOf (countIn (now (net .entry))) p ⌝ }
     ensures { λ r. ⌜ r ≤ 20035 ⌝ }
 {
     1 + p * (HEAD + ENTRY * nets::count(net))

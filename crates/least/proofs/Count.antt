@@ -1,12 +1,12 @@
--- Laws of count and ceil. Assumes nothing.
+-- Laws of pick, count and ceil. Assumes nothing.
 use mathlib.Core.Path.{_≡_, refl, ap, _∙_}
 use mathlib.Core.Bool.{Bool, true, false}
 use mathlib.Core.Logic.{_⊎_, inl, inr}
 use Prim.Native.Nat.{ℕ, _+_, _-_, _*_, _/_, _≤_, _<_}
 use native.Mathlib.Nat.{le-refl, le-trans, le-div-iff-mul-le, div-lt-iff-lt-mul, div-zero}
 use native.Mathlib.Omega.{arith}
-use lib.Dec.{leb}
-use borrow.Author.Tests.{leb-true, leb-false, le-leb, lt-leb}
+use lib.Dec.{leb, ltb, eqb}
+use borrow.Author.Tests.{leb-true, leb-false, le-leb, lt-leb, lt-ltb, le-ltb, eq-eqb, ne-eqb}
 use Rattle.least.specs.Count.{pick, count, ceil}
 
 pub le-or-lt : (a b : ℕ) → (a ≤ b) ⊎ (b < a)
@@ -23,6 +23,20 @@ never-true false h = refl
 pub pick-le : (b : Bool) {a a′ c c′ : ℕ} → a ≤ a′ → c ≤ c′ → pick b a c ≤ pick b a′ c′
 pick-le true p q = p
 pick-le false p q = q
+
+-- what is picked by a test
+module _ {A : Type 0} (s t : ℕ) (p q : A) where
+  pub pick-below : s < t → p ≡ pick (ltb s t) p q
+  pick-below h = rw (lt-ltb s t h)
+
+  pub pick-above : t ≤ s → q ≡ pick (ltb s t) p q
+  pick-above h = rw (le-ltb s t h)
+
+  pub pick-same : s ≡ t → p ≡ pick (eqb s t) p q
+  pick-same h = rw (eq-eqb s t h)
+
+  pub pick-other : (s ≡ t → ⊥) → q ≡ pick (eqb s t) p q
+  pick-other h = rw (ne-eqb s t h)
 
 -- the two cases
 pub count-in : (a b t : ℕ) → b ≤ a → count a b t ≡ 1 + (a - b) / t

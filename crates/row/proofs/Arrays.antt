@@ -5,7 +5,7 @@ use mathlib.Core.Bool.{Bool, true, false, cond, not}
 use mathlib.Core.List.{List, [], _∷_, _++_}
 use native.Mathlib.Numerals.{add-one}
 use native.Mathlib.Omega.{arith}
-use lib.ListN.{length, getD, take, drop, set, replicate, length-append, length-take, drop-of-length-le}
+use lib.ListN.{length, getD, take, drop, set, replicate, length-append, length-take, drop-of-length-le, List·getD-eq-default}
 use lib.Seq.{set-append-seam, append-snoc, take-append-seam, drop-cons, getD-take}
 use lib.Dec.{leb, ltb}
 use borrow.Author.Tests.{eq-eqb, ne-eqb, lt-ltb, le-ltb, le-leb, lt-leb, not-true, not-false}
@@ -60,6 +60,9 @@ module _ (row : Row) (len : length (row .flows) ≡ mostFlows) where
   pub held-at : (k : ℕ) (d : Flow) → k < length (held row) → getD (held row) k d ≡ getD (row .flows) k d
   unfolding held
   held-at k d h = used-at (row .flows) (row .count) k d h
+
+  pub flow-none : (k : ℕ) → length (held row) ≤ k → noFlow ≡ placed row k
+  flow-none k h = sym (List·getD-eq-default (held row) noFlow {n = k} h)
 
   module _ (k : ℕ) (h : k < length (held row)) where
     pub place-held : k < mostFlows

@@ -30,10 +30,13 @@ pub fn size(row: Row) -> usize
     n
 }
 
+// The flow at a place; behind the last, the one that is all zeros.
 pub fn flow_at(row: Row, k: usize) -> Flow
-    requires { ⌜ k < length (held row) ⌝ }
     ensures { λ r. ⌜ r ≡ placed row k ⌝ }
 {
+    if size(row) <= k {
+        return flows::no_flow();
+    }
     row.flows[k]
 }
 

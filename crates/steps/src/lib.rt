@@ -111,13 +111,17 @@ fn advance_entry(
     sum + e[k + 4]
 }
 
-// Takes what is kept of node p from the tick before u to u, at which it steps.
-fn step_node(e: &[u64], steps: &mut [u64], p: usize, at: usize, u: u64, end: u64) -> u64
+// Takes what is kept of node p from the tick before u to u: as it is, if the node does not step there.
+fn advance_node(e: &[u64], steps: &mut [u64], p: usize, at: usize, u: u64, end: u64) -> u64
     requires { ⌜ Shaped (now e) (p + 1) × (0 < u) × (u < end) × (end ≤ mostInstant) × (at + keptSize + entriesIn (now e) p ≤ length (now steps)) × (length (now steps) ≤ 16777216) ⌝ }
     requires { ⌜ KeptAt (now e) end (u - 1) (now steps) p at ⌝ }
     ensures { λ r. ⌜ KeptAt (now (e .entry)) end u (now (steps .exit)) p at × NodeStep (now (e .entry)) p u end r ⌝ }
     ensures { λ r. ⌜ Inside at (at + keptSize + entriesIn (now (e .entry)) p) (now (steps .entry)) (now (steps .exit)) ⌝ }
 {
+    let step = steps[at + 1];
+    if step != u {
+        return step;
+    }
     let block = blocks::block_at(e, p);
     let n = e[block + 2] as usize;
     let mut sum = steps[at];
@@ -139,20 +143,6 @@ fn step_node(e: &[u64], steps: &mut [u64], p: usize, at: usize, u: u64, end: u64
     steps[at] = sum;
     steps[at + 1] = next;
     next
-}
-
-// Takes what is kept of node p from the tick before u to u: as it is, if the node does not step there.
-fn advance_node(e: &[u64], steps: &mut [u64], p: usize, at: usize, u: u64, end: u64) -> u64
-    requires { ⌜ Shaped (now e) (p + 1) × (0 < u) × (u < end) × (end ≤ mostInstant) × (at + keptSize + entriesIn (now e) p ≤ length (now steps)) × (length (now steps) ≤ 16777216) ⌝ }
-    requires { ⌜ KeptAt (now e) end (u - 1) (now steps) p at ⌝ }
-    ensures { λ r. ⌜ KeptAt (now (e .entry)) end u (now (steps .exit)) p at × NodeStep (now (e .entry)) p u end r ⌝ }
-    ensures { λ r. ⌜ Inside at (at + keptSize + entriesIn (now (e .entry)) p) (now (steps .entry)) (now (steps .exit)) ⌝ }
-{
-    let next = steps[at + 1];
-    if next != u {
-        return next;
-    }
-    step_node(e, steps, p, at, u, end)
 }
 
 // What is kept of node p: begun at the first instant, taken on from the tick before at each later one.

@@ -6,7 +6,7 @@ use lib.ListN.{length}
 use borrow.Author.Needs.{needs}
 use Rattle.least.specs.Lists.{values}
 use Rattle.nets.specs.Nets.{countIn}
-use Rattle.entries.proofs.Picks.{place-fits, place-inside, arrival-first, arrival-later}
+use Rattle.entries.proofs.Places.{place-fits, place-inside, arrival-first, arrival-later}
 use Rattle.entries.proofs.arrival.Statement.{statement}
 use Rattle.entries.proofs.arrival.Tie as tie
 

@@ -3,7 +3,7 @@ use native.Mathlib.Omega.{arith}
 use borrow.Author.Needs.{needs}
 use Rattle.nets.specs.Nets.{lengthIn}
 use Rattle.crossings.specs.Pairs.{placeOn}
-use Rattle.entries.proofs.Picks.{pick-below, pick-above}
+use Rattle.least.proofs.Count.{pick-below, pick-above}
 use Rattle.entries.proofs.later.Statement.{statement}
 use Rattle.entries.proofs.later.Tie as tie
 

@@ -4,7 +4,7 @@ use Prim.Native.Nat.{_+_}
 use native.Mathlib.Omega.{arith}
 use borrow.Author.Needs.{needs}
 use Rattle.blocks.specs.Sheet.{hereSlot, nodeSlot}
-use Rattle.entries.proofs.Picks.{pick-same, pick-other}
+use Rattle.least.proofs.Count.{pick-same, pick-other}
 use Rattle.entries.proofs.look_at.Statement.{statement}
 use Rattle.entries.proofs.look_at.Tie as tie
 

@@ -2,7 +2,7 @@
 use native.Mathlib.Omega.{arith}
 use borrow.Author.Needs.{needs}
 use Rattle.crossings.specs.Pairs.{placeOn}
-use Rattle.entries.proofs.Picks.{pick-below, pick-above}
+use Rattle.least.proofs.Count.{pick-below, pick-above}
 use Rattle.entries.proofs.nearer.Statement.{statement}
 use Rattle.entries.proofs.nearer.Tie as tie
 

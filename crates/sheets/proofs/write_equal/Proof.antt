@@ -12,7 +12,8 @@ use Rattle.crossings.specs.Pairs.{costOn}
 use Rattle.entries.specs.Rows.{nearTo, weightTo, equalAt}
 use Rattle.sheets.specs.Sheets.{fromOn}
 use Rattle.frames.proofs.Frames.{frame-less, Going, going-from, going-end, going-room, going-more}
-use Rattle.sheets.proofs.Writing.{from-none, from-one, Shared, shared-first, near-more, weight-none, equal-made}
+use Rattle.entries.proofs.Rows.{Shared, shared-first, near-more, weight-none, equal-made}
+use Rattle.sheets.proofs.Writing.{from-none, from-one}
 use Rattle.sheets.proofs.write_equal.Statement.{statement}
 use Rattle.sheets.proofs.write_equal.Tie as tie
 

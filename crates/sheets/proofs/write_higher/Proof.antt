@@ -13,7 +13,8 @@ use Rattle.entries.specs.Rows.{lastTo, weightTo, higherAt}
 use Rattle.entries.proofs.Running.{last-below}
 use Rattle.sheets.specs.Sheets.{fromOn}
 use Rattle.frames.proofs.Frames.{frame-less, Going, going-from, going-end, going-room, going-more}
-use Rattle.sheets.proofs.Writing.{from-none, from-one, Shared, shared-first, last-more, weight-none, higher-made}
+use Rattle.entries.proofs.Rows.{Shared, shared-first, last-more, weight-none, higher-made}
+use Rattle.sheets.proofs.Writing.{from-none, from-one}
 use Rattle.sheets.proofs.write_higher.Statement.{statement}
 use Rattle.sheets.proofs.write_higher.Tie as tie
 

@@ -11,7 +11,7 @@ use Rattle.rules.specs.Valid.{Valid}
 use Rattle.nets.specs.Nets.{countIn, lengthIn, hopIn, netIn}
 use Rattle.entries.specs.Rows.{ownTo, ownAt}
 use Rattle.frames.proofs.Frames.{frame-less, Going, going-from, going-end, going-room, going-more}
-use Rattle.sheets.proofs.Writing.{own-made}
+use Rattle.entries.proofs.Rows.{own-made}
 use Rattle.sheets.proofs.write_own.Statement.{statement}
 use Rattle.sheets.proofs.write_own.Tie as tie
 

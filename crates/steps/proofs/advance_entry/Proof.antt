@@ -1,4 +1,4 @@
--- `blocks::advance_entry` meets its contract.
+-- `steps::advance_entry` meets its contract.
 use mathlib.Core.Path.{_≡_, sym, subst}
 use Prim.Native.Nat.{_-_, _+_}
 use Rattle.least.specs.Lists.{values}

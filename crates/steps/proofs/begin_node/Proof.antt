@@ -1,4 +1,4 @@
--- `blocks::begin_node` meets its contract.
+-- `steps::begin_node` meets its contract.
 use lib.Seq.{getD-set-same}
 use lib.ListN.{set, length-set}
 use mathlib.Core.Path.{_≡_, sym, ap, subst}

@@ -1,4 +1,4 @@
--- `blocks::entry_step` meets its contract.
+-- `steps::entry_step` meets its contract.
 use Prim.Native.Nat.{_+_}
 use Rattle.steps.proofs.Steps.{entry-none, entry-other, entry-looks}
 use native.Mathlib.Omega.{arith}

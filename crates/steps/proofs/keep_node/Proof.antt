@@ -1,4 +1,4 @@
--- `blocks::keep_node` meets its contract.
+-- `steps::keep_node` meets its contract.
 use native.Mathlib.Omega.{arith}
 use borrow.Author.Needs.{needs}
 use Rattle.steps.proofs.keep_node.Statement.{statement}

@@ -1,4 +1,4 @@
--- `blocks::step_after` meets its contract.
+-- `steps::step_after` meets its contract.
 use Prim.Native.Nat.{_+_, _-_}
 use native.Mathlib.Nat.{mod-lt}
 use Rattle.least.proofs.Steps.{count-first, count-ever, count-next}

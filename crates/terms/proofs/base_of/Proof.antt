@@ -1,4 +1,4 @@
--- `ways::base_of` meets its contract.
+-- `terms::base_of` meets its contract.
 use Prim.Native.Nat.{_≤_}
 use native.Mathlib.Nat.{mul-le-mul}
 use native.Mathlib.Omega.{arith}

@@ -1,4 +1,4 @@
--- `ways::greatest_by` meets its contract.
+-- `terms::greatest_by` meets its contract.
 use borrow.Author.Needs.{needs}
 use Rattle.terms.proofs.Turns.{greatest-apart, greatest-along}
 use Rattle.terms.proofs.greatest_by.Statement.{statement}

@@ -1,4 +1,4 @@
--- `ways::greatest_cost` meets its contract.
+-- `terms::greatest_cost` meets its contract.
 use mathlib.Core.Path.{_≡_}
 use Prim.Native.Nat.{_-_, _≤_, max}
 use native.Mathlib.Omega.{arith}

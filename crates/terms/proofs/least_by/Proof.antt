@@ -1,4 +1,4 @@
--- `ways::least_by` meets its contract.
+-- `terms::least_by` meets its contract.
 use borrow.Author.Needs.{needs}
 use Rattle.terms.proofs.Turns.{least-apart, least-unvisited, least-visited}
 use Rattle.terms.proofs.least_by.Statement.{statement}

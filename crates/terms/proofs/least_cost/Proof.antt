@@ -1,4 +1,4 @@
--- `ways::least_cost` meets its contract.
+-- `terms::least_cost` meets its contract.
 use mathlib.Core.Path.{_≡_}
 use Prim.Native.Nat.{_-_, _≤_}
 use native.Mathlib.Omega.{arith}

@@ -1,4 +1,4 @@
--- `ways::lower_by` meets its contract.
+-- `terms::lower_by` meets its contract.
 use borrow.Author.Needs.{needs}
 use Rattle.terms.proofs.Turns.{lower-brings, others-bring-none}
 use Rattle.terms.proofs.lower_by.Statement.{statement}

@@ -1,4 +1,4 @@
--- `ways::lower_less_one` meets its contract.
+-- `terms::lower_less_one` meets its contract.
 use mathlib.Core.Path.{_≡_}
 use Prim.Native.Nat.{_-_, _≤_, max}
 use native.Mathlib.Omega.{arith}

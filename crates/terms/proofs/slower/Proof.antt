@@ -1,4 +1,4 @@
--- `ways::slower` meets its contract.
+-- `terms::slower` meets its contract.
 use borrow.Author.Needs.{needs}
 use Rattle.terms.proofs.Turns.{slower-later, slower-earlier}
 use Rattle.terms.proofs.slower.Statement.{statement}

@@ -1,4 +1,4 @@
--- `ways::slowest_place` meets its contract.
+-- `terms::slowest_place` meets its contract.
 use mathlib.Core.Path.{_≡_}
 use Prim.Native.Nat.{_+_, _-_, _≤_}
 use native.Mathlib.Omega.{arith}

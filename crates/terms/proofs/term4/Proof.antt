@@ -1,4 +1,4 @@
--- `ways::term4` meets its contract.
+-- `terms::term4` meets its contract.
 use mathlib.Core.Path.{_≡_}
 use Prim.Native.Nat.{_+_, _-_, _*_, _≤_}
 use native.Mathlib.Omega.{arith}

@@ -1,4 +1,4 @@
--- `ways::term4_at` meets its contract.
+-- `terms::term4_at` meets its contract.
 use borrow.Author.Needs.{needs}
 use Rattle.terms.proofs.Turns.{term4-slowest, term4-other}
 use Rattle.terms.proofs.term4_at.Statement.{statement}
