@@ -33,7 +33,7 @@ const BEFORE: Option<Judge> = None;
 
 fn plain_judge(plan: &[u8]) -> u64 {
     match plain::read(plan) {
-        Ok(set) => plain::judge(&plain::prepare(&set), Walk::Steps, &mut Counts::default()).answer,
+        Ok(set) => plain::judge(&plain::prepare(&set), Walk::Near, &mut Counts::default()).answer,
         Err(refusal) => refusal,
     }
 }
@@ -105,31 +105,42 @@ fn walked(plan: &[u8], walk: Walk) -> Walked {
     }
 }
 
+/// Sums over the plans of a group, of another walk.
+#[derive(Default)]
+struct Beside {
+    counts: Counts,
+    time: Duration,
+}
+
 /// What is told of a group of plans: sums over them.
 #[derive(Default)]
 struct Row {
     answers: BTreeMap<u64, u32>,
-    steps: Counts,
-    ticks: Counts,
-    every: Option<Duration>,
+    near: Counts,
+    steps: Option<Beside>,
+    ticks: Option<Beside>,
     prepared: Duration,
     times: Vec<Duration>,
 }
 
 impl Row {
-    /// Counts both walks, which must agree; answers as they do.
-    fn count(&mut self, plan: &[u8], every_tick: bool) -> u64 {
-        let steps = walked(plan, Walk::Steps);
-        if every_tick {
-            let ticks = walked(plan, Walk::Ticks);
-            assert_eq!(steps.verdict, ticks.verdict);
-            assert_eq!(steps.counts.turns, ticks.counts.turns);
-            self.ticks.add(&ticks.counts);
-            self.every = Some(self.every.unwrap_or_default() + ticks.time);
+    /// Counts the walk near the peaks, and those beside it, which must agree with it; answers as they do.
+    fn count(&mut self, plan: &[u8], beside: &[Walk]) -> u64 {
+        let near = walked(plan, Walk::Near);
+        for &walk in beside {
+            let other = walked(plan, walk);
+            assert_eq!(near.verdict, other.verdict);
+            let sums = match walk {
+                Walk::Ticks => &mut self.ticks,
+                _ => &mut self.steps,
+            };
+            let sums = sums.get_or_insert_with(Beside::default);
+            sums.counts.add(&other.counts);
+            sums.time += other.time;
         }
-        self.steps.add(&steps.counts);
-        *self.answers.entry(steps.verdict.answer).or_default() += 1;
-        steps.verdict.answer
+        self.near.add(&near.counts);
+        *self.answers.entry(near.verdict.answer).or_default() += 1;
+        near.verdict.answer
     }
 
     fn time(&mut self, plan: &[u8], answer: u64, span: Duration) {
@@ -156,17 +167,26 @@ impl Row {
     }
 
     fn print(&self, name: &str) {
-        let (ticks, steps) = (&self.ticks, &self.steps);
         let (proved, plain) = (self.times[0], self.times[1]);
+        let others = [&self.ticks, &self.steps].map(|beside| beside.as_ref());
+        let told = |count: fn(&Counts) -> u64| {
+            let other = |beside: &Beside| count(&beside.counts).to_string();
+            let [ticks, steps] = others.map(|beside| beside.map_or("-".into(), other));
+            format!("{ticks} → {steps} → {}", count(&self.near))
+        };
+        let time = |beside: &Beside| format!("{:.2?}", beside.time);
+        let [ticks, steps] = others.map(|beside| beside.map_or("-".into(), time));
+        let turns = |beside: &Beside| beside.counts.scans.to_string();
         print!(
-            "{name} | {} | {} | {} | {} | {proved:.2?} | {plain:.2?} | {:.2} | {:.2?} | {}",
+            "{name} | {} | {} → {} + {} | {} | {} | {proved:.2?} | {plain:.2?} | {:.2} | {:.2?} | {steps} | {ticks}",
             self.answers(),
-            steps.turns,
-            fewer(ticks.instants, steps.instants),
-            fewer(ticks.sums, steps.sums),
+            others[1].map_or("-".into(), turns),
+            self.near.scans,
+            self.near.looks,
+            told(|counts| counts.instants),
+            told(|counts| counts.sums),
             ratio(proved, plain),
             self.prepared,
-            self.every.map_or("-".into(), |time| format!("{time:.2?}")),
         );
         if let Some(&before) = self.times.get(2) {
             print!(" | {before:.2?} | {:.2}", ratio(before, proved));
@@ -175,26 +195,18 @@ impl Row {
     }
 }
 
-fn fewer(ticks: u64, steps: u64) -> String {
-    match ticks {
-        0 => format!("- → {steps}"),
-        _ => format!("{ticks} → {steps} ({:.1})", ticks as f64 / steps as f64),
-    }
-}
-
 fn ratio(a: Duration, b: Duration) -> f64 {
     a.as_secs_f64() / b.as_secs_f64()
 }
 
-/// A long plan is run only if its name is asked for, and not at every tick.
 fn tell(group: &Group, part: &str) {
-    if !group.name.contains(part) || group.long && part.is_empty() {
+    if !group.name.contains(part) {
         return;
     }
     let span = Duration::from_secs(2) / group.plans.len() as u32;
     let mut row = Row::default();
     for plan in &group.plans {
-        let answer = row.count(plan, !group.long);
+        let answer = row.count(plan, group.beside);
         row.time(plan, answer, span);
     }
     row.print(group.name);
@@ -202,7 +214,8 @@ fn tell(group: &Group, part: &str) {
 
 fn main() {
     let part = std::env::args().nth(1).unwrap_or_default();
-    print!("plan | answer | turns | instants: every tick → steps | sums | proved | plain | ratio | plain, preparation | plain, every tick");
+    print!("plan | answer | turns → full scans + looks | instants: every tick → full scans alone → with looks | sums | proved | plain | ratio | ");
+    print!("plain, preparation | plain, full scans alone | plain, every tick");
     println!("{}", BEFORE.map_or("", |_| " | before | before / proved"));
     for group in plans::all() {
         tell(&group, &part);

@@ -1,5 +1,5 @@
-//! The library's algorithm in plain Rust: read and test a plan, prepare once, try the instants at which a count steps up, settle flow by flow. For comparison
-//! every tick can be tried instead.
+//! The library's algorithm in plain Rust: read and test a plan, prepare once, settle flow by flow, with looks near a flow's peak before it is scanned over
+//! its busy length, at the instants at which a count steps up. For comparison every turn can be a full scan, or every tick be tried.
 
 pub const HORIZON: u64 = 65535;
 const NODES: usize = 8;
@@ -8,12 +8,19 @@ const SLOTS: usize = 16;
 const HERE: usize = 8;
 const INSTANT: usize = 9;
 
-/// Which instants below the busy length are tried.
-#[derive(Clone, Copy)]
+/// What a turn tries: the steps near the flow's peak before all steps, all steps, or every tick.
+#[derive(Clone, Copy, PartialEq)]
 pub enum Walk {
+    Near,
     Steps,
     Ticks,
 }
+
+/// The turns of a flow once something that it reads has risen; a mark is the number left.
+const FRESH: u64 = 4;
+
+/// A scan with no more steps is as short as a look near a peak.
+const FEW: u64 = 64;
 
 #[derive(Clone, Copy, Default)]
 pub struct Flow {
@@ -33,19 +40,21 @@ pub struct Set {
     pub flows: Vec<Flow>,
 }
 
-/// What was done: instants tried, evaluations of a sum, turns of settling.
+/// What was done: instants tried, evaluations of a sum, full scans, turns near a peak.
 #[derive(Default)]
 pub struct Counts {
     pub instants: u64,
     pub sums: u64,
-    pub turns: u64,
+    pub scans: u64,
+    pub looks: u64,
 }
 
 impl Counts {
     pub fn add(&mut self, other: &Counts) {
         self.instants += other.instants;
         self.sums += other.sums;
-        self.turns += other.turns;
+        self.scans += other.scans;
+        self.looks += other.looks;
     }
 }
 
@@ -310,14 +319,41 @@ impl Prepared<'_> {
         }
     }
 
+    fn meets_equal(&self, a: usize, b: usize) -> bool {
+        let pair = &self.pairs[a][b];
+        pair.role == Role::Equal && (pair.first as usize) < self.set.flows[a].length
+    }
+
+    /// How far to each side of its peak flow a is looked at, with that many turns left: so many steps, by the packets in its busy length.
+    fn reach(&self, a: usize, turns: u64) -> u64 {
+        let busy = self.facts[a].busy;
+        if turns <= 1 {
+            return busy;
+        }
+        let packets = |b: usize| busy.div_ceil(self.set.flows[b].period);
+        let steps: u64 = (0..self.set.flows.len())
+            .filter(|&b| self.meets_equal(a, b))
+            .map(packets)
+            .sum();
+        let steps = packets(a) + steps;
+        if steps <= FEW {
+            return busy;
+        }
+        let near = match turns {
+            2 => 1024,
+            3 => 64,
+            _ => 4,
+        };
+        near * (1 + busy / steps)
+    }
+
     /// Whether a bound of flow a stands in the sums of flow b.
     fn reads(&self, b: usize, a: usize) -> bool {
-        let meets =
-            |b: usize, a: usize| (self.pairs[b][a].first as usize) < self.set.flows[b].length;
         match self.pairs[b][a].role {
-            Role::Own => (0..self.set.flows.len())
-                .any(|c| self.pairs[b][c].role == Role::Equal && meets(b, c)),
-            Role::Higher | Role::Equal => meets(b, a),
+            Role::Own => (0..self.set.flows.len()).any(|c| self.meets_equal(b, c)),
+            Role::Higher | Role::Equal => {
+                (self.pairs[b][a].first as usize) < self.set.flows[b].length
+            }
             Role::Lower => false,
         }
     }
@@ -514,33 +550,47 @@ impl Block {
     }
 }
 
-fn responses(sheet: &[Block], busy: u64, walk: Walk, counts: &mut Counts) -> Option<[u64; NODES]> {
+/// The bounds at each node, and the first instant at which the last node has its bound.
+fn responses(
+    sheet: &[Block],
+    instants: std::ops::Range<u64>,
+    walk: Walk,
+    counts: &mut Counts,
+) -> Option<([u64; NODES], u64)> {
+    let (from, end) = (instants.start, instants.end);
     let mut v = [0u64; SLOTS];
     let mut best = [0u64; NODES];
     let mut kept = [Kept::default(); NODES];
-    let mut u = 0;
-    while u < busy {
+    let (mut most, mut peak) = (0, from);
+    let mut u = from;
+    while u < end {
         counts.instants += 1;
-        let mut next = busy;
+        let mut next = end;
         for (block, kept) in sheet.iter().zip(&mut kept) {
-            let step = match u {
-                0 => block.begin(kept, u, busy),
-                _ => block.advance(kept, u, busy),
+            let step = if u == from {
+                block.begin(kept, u, end)
+            } else {
+                block.advance(kept, u, end)
             };
             next = next.min(step);
         }
         v[INSTANT] = u;
+        let mut bound = 0;
         for (p, block) in sheet.iter().enumerate() {
             let w = block.start(&kept[p], &mut v, p, u, counts)?;
             v[p] = w;
-            best[p] = best[p].max((w + block.added).saturating_sub(u));
+            bound = (w + block.added).saturating_sub(u);
+            best[p] = best[p].max(bound);
+        }
+        if most < bound {
+            (most, peak) = (bound, u);
         }
         u = match walk {
-            Walk::Steps => next,
+            Walk::Near | Walk::Steps => next,
             Walk::Ticks => u + 1,
         };
     }
-    Some(best)
+    Some((best, peak))
 }
 
 /// Whether b, after c, is more urgent, or as urgent and before it in the round that begins after the last.
@@ -549,10 +599,13 @@ fn comes_before(set: &Set, last: usize, c: usize, b: usize) -> bool {
     old < new || old == new && c <= last && last < b
 }
 
-fn choose(set: &Set, marks: &[bool], last: usize) -> Option<usize> {
-    let mut chosen = None;
-    for (b, &marked) in marks.iter().enumerate() {
-        if marked && chosen.is_none_or(|c| comes_before(set, last, c, b)) {
+/// The flow with the most turns left, of several the most urgent, of several the next in the round.
+fn choose(set: &Set, marks: &[u64], last: usize) -> Option<usize> {
+    let mut chosen: Option<usize> = None;
+    for (b, &mark) in marks.iter().enumerate() {
+        let before =
+            |c: usize| marks[c] < mark || marks[c] == mark && comes_before(set, last, c, b);
+        if mark > 0 && chosen.is_none_or(before) {
             chosen = Some(b);
         }
     }
@@ -565,23 +618,37 @@ fn settle(prepared: &Prepared, walk: Walk, counts: &mut Counts) -> Option<Replie
     let n = set.flows.len();
     let mut sheet = [Block::default(); NODES];
     let mut replies = [0; FLOWS * NODES];
-    let mut marks = [true; FLOWS];
+    let mut marks = [1; FLOWS];
+    let mut peaks = [0; FLOWS];
+    let fresh = if walk == Walk::Near { FRESH } else { 1 };
     let mut last = n;
     while let Some(a) = choose(set, &marks[..n], last) {
         let m = set.flows[a].length;
         last = a;
-        marks[a] = false;
-        counts.turns += 1;
         prepared.write(&mut sheet[..m], &replies, a);
-        let best = responses(&sheet[..m], prepared.facts[a].busy, walk, counts)?;
+        let busy = prepared.facts[a].busy;
+        let far = prepared.reach(a, marks[a]);
+        let peak: u64 = peaks[a];
+        let instants = peak.saturating_sub(far)..busy.min(peak + far);
+        let (best, peak) = responses(&sheet[..m], instants, walk, counts)?;
         let mut rose = false;
         for (reply, &bound) in replies[a * NODES..].iter_mut().zip(&best[..m]) {
             rose |= *reply < bound;
             *reply = bound.max(*reply);
         }
+        if far < busy {
+            counts.looks += 1;
+            marks[a] = if rose { FRESH } else { marks[a] - 1 };
+        } else {
+            counts.scans += 1;
+            marks[a] = 0;
+        }
         if rose {
+            peaks[a] = peak;
             for (b, mark) in marks[..n].iter_mut().enumerate() {
-                *mark |= prepared.reads(b, a);
+                if prepared.reads(b, a) {
+                    *mark = fresh;
+                }
             }
         }
     }

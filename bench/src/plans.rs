@@ -13,8 +13,8 @@ struct Flow {
 pub struct Group {
     pub name: &'static str,
     pub plans: Vec<Vec<u8>>,
-    /// To try every tick would take minutes.
-    pub long: bool,
+    /// The other walks that are counted: those that take no minutes.
+    pub beside: &'static [Walk],
 }
 
 fn bytes(lmin: u16, lmax: u16, flows: &[Flow]) -> Vec<u8> {
@@ -112,14 +112,21 @@ fn against(urgent: u8, others: u8, cost: u16, period: u16) -> Vec<u8> {
     bytes(1, 2, &flows)
 }
 
-/// Sixteen flows of two nodes each, in a ring: a change goes round and round it, and raises each bound by little.
-fn ring(cost: u16) -> Vec<u8> {
-    let flow = |a: u8| Flow {
-        number: a + 1,
-        priority: 0,
-        period: 3 * cost,
-        jitter: (a == 0) as u16,
-        path: vec![(a + 1, cost), ((a + 1) % 16 + 1, cost)],
+/// Sixteen flows of two nodes each, in a ring: a change goes round and round it, and raises each bound by little. With the numbers, or against them.
+fn ring(cost: u16, against: bool) -> Vec<u8> {
+    let flow = |a: u8| {
+        let (here, next) = ((a + 1, cost), ((a + 1) % 16 + 1, cost));
+        Flow {
+            number: a + 1,
+            priority: 0,
+            period: 3 * cost,
+            jitter: (a == 0) as u16,
+            path: if against {
+                vec![next, here]
+            } else {
+                vec![here, next]
+            },
+        }
     };
     let flows: Vec<Flow> = (0..16).map(flow).collect();
     bytes(0, cost, &flows)
@@ -171,6 +178,28 @@ fn dense() -> Vec<u8> {
     bytes(1, 2, &flows)
 }
 
+/// Three flows of small periods over seven nodes in different orders, and others that bring the load at one node to nearly 1: every tick is a step, and a
+/// bound rises by little at each of tens of thousands of turns. The first five of these flows, or all six.
+fn tight(flows: usize) -> Vec<u8> {
+    let all: [(u16, u16, &[u8]); 6] = [
+        (3, 1, &[2, 6, 5, 7, 4, 1, 3]),
+        (3, 1, &[6, 1, 5, 2, 7, 3, 4]),
+        (4, 1, &[7, 5, 2, 3, 1, 6, 4]),
+        (13, 1, &[1]),
+        (157, 1, &[1]),
+        (65535, 2, &[1]),
+    ];
+    let flow = |(number, &(period, cost, nodes)): (u8, &(u16, u16, &[u8]))| Flow {
+        number,
+        priority: 0,
+        period,
+        jitter: 0,
+        path: nodes.iter().map(|&h| (h, cost)).collect(),
+    };
+    let flows: Vec<Flow> = (1..).zip(&all[..flows]).map(flow).collect();
+    bytes(1, 1, &flows)
+}
+
 /// A generator (xorshift) with a fixed seed.
 struct Chance(u64);
 
@@ -216,7 +245,7 @@ fn wide_plan(chance: &mut Chance) -> Vec<u8> {
 
 fn has_busy_lengths(plan: &[u8]) -> bool {
     let set = plain::read(plan).expect("a generated plan is well formed");
-    let verdict = plain::judge(&plain::prepare(&set), Walk::Steps, &mut Counts::default());
+    let verdict = plain::judge(&plain::prepare(&set), Walk::Near, &mut Counts::default());
     verdict.answer % 256 != 8
 }
 
@@ -232,7 +261,7 @@ fn single(name: &'static str, plan: Vec<u8>) -> Group {
     Group {
         name,
         plans: vec![plan],
-        long: false,
+        beside: &[Walk::Steps, Walk::Ticks],
     }
 }
 
@@ -242,7 +271,7 @@ pub fn all() -> Vec<Group> {
         single("hall, one priority", hall(1, false)),
         single("hall, sixteen paths, three priorities", branches(3)),
         single("hall, sixteen paths, one priority", branches(1)),
-        single("ring that settles slowly", ring(50)),
+        single("ring that settles slowly", ring(50, false)),
         single("hall, half of the paths reversed", hall(1, true)),
         single("sixteen, eight against eight", against(0, 16, 20, 320)),
         single(
@@ -257,11 +286,23 @@ pub fn all() -> Vec<Group> {
         Group {
             name: "wide generated ones",
             plans: wide(),
-            long: false,
+            beside: &[Walk::Steps, Walk::Ticks],
         },
         Group {
-            long: true,
-            ..single("ring of 16, slow", ring(4095))
+            beside: &[Walk::Steps],
+            ..single("ring of 16, slow", ring(4095, false))
+        },
+        Group {
+            beside: &[Walk::Steps],
+            ..single("ring of 16, against its numbers", ring(4095, true))
+        },
+        Group {
+            beside: &[Walk::Steps],
+            ..single("five flows, tight", tight(5))
+        },
+        Group {
+            beside: &[],
+            ..single("six flows, tight", tight(6))
         },
     ]
 }

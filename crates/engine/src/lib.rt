@@ -20,8 +20,8 @@ ghost use Rattle.findings.specs.Findings.{FirstIs};
 ghost use Rattle.engine.specs.Verdicts.{noFigures, refused, verdictOf, Meant};
 ghost use Rattle.engine.specs.Firsts.{hopAt, figureOf, FiguresUpTo, deadlineAt, boundAt, DeadlinesIs};
 
-// What a set of at most 16 flows with 8 nodes takes: as numbers, facts of each two flows, facts of each place, response bounds, a sheet, starting times,
-// next steps.
+// What a set of at most 16 flows with 8 nodes takes: as numbers, facts of each two flows, facts of each place, response bounds, marks and peaks, a sheet,
+// starting times, next steps.
 const NET: usize = 356;
 
 const PAIRS: usize = 2816;
@@ -29,6 +29,8 @@ const PAIRS: usize = 2816;
 const WAYS: usize = 384;
 
 const PLACES: usize = 128;
+
+const MARKS: usize = 32;
 
 const SHEET: usize = 665;
 
@@ -178,7 +180,7 @@ pub fn judge(row: Row, lmin: u16, lmax: u16) -> Verdict
     let mut ways = [0u64; WAYS];
     let mut busies = [0u64; FLOWS];
     let mut replies = [0u64; PLACES];
-    let mut marks = [0u64; FLOWS];
+    let mut marks = [0u64; MARKS];
     let mut sheet = [0u64; SHEET];
     let mut slots = [0u64; SLOTS];
     let mut steps = [0u64; STEPS];

@@ -1,9 +1,9 @@
 -- Laws of pick, count and ceil. Assumes nothing.
-use mathlib.Core.Path.{_≡_, refl, ap, _∙_}
+use mathlib.Core.Path.{_≡_, refl, sym, ap, _∙_}
 use mathlib.Core.Bool.{Bool, true, false}
 use mathlib.Core.Logic.{_⊎_, inl, inr}
 use Prim.Native.Nat.{ℕ, _+_, _-_, _*_, _/_, _≤_, _<_}
-use native.Mathlib.Nat.{le-refl, le-trans, le-div-iff-mul-le, div-lt-iff-lt-mul, div-zero}
+use native.Mathlib.Nat.{le-refl, le-trans, mul-le-mul-left, le-div-iff-mul-le, div-lt-iff-lt-mul, div-zero}
 use native.Mathlib.Omega.{arith}
 use lib.Dec.{leb, ltb, eqb}
 use borrow.Author.Tests.{leb-true, leb-false, le-leb, lt-leb, lt-ltb, le-ltb, eq-eqb, ne-eqb}
@@ -142,3 +142,17 @@ count-shift a b c t p = omega (
   count-le (a + c) (b + c) t (count a b t) p (omega (arith, le-count a b t (count a b t) p (le-refl _))),
   count-le a b t (count (a + c) (b + c) t) p (omega (arith, le-count (a + c) (b + c) t (count (a + c) (b + c) t) p (le-refl _))),
 )
+
+-- as it is worked out
+module _ (x t : ℕ) where
+  pub ceil-none : t ≡ 0 → 0 ≡ ceil x t
+  unfolding ceil
+  ceil-none e = rw e (sym (div-zero (x + (0 - 1))))
+
+  pub ceil-made : (t ≡ 0 → ⊥) → (x + (t - 1)) / t ≡ ceil x t
+  unfolding ceil
+  ceil-made e = omega arith
+
+  pub ceil-most : x ≤ 65536 → (t ≡ 0 → ⊥) → (x + (t - 1)) / t ≤ 65536
+  unfolding ceil
+  ceil-most h e = let p : 0 < t = omega arith in ceil-le x t 65536 p (omega (arith, mul-le-mul-left {m = 1} {n = t} 65536 (omega arith)))

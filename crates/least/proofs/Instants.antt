@@ -1,10 +1,11 @@
 -- Finitely many instants decide a maximum over all. Assumes nothing.
-use mathlib.Core.Path.{_≡_, refl, ap, subst}
+use mathlib.Core.Path.{_≡_, refl, sym, ap, subst}
 use mathlib.Core.Logic.{_⊎_, inl, inr}
 use Prim.Native.Nat.{ℕ, zero, suc, _+_, _-_, _≤_, _<_, max}
 use native.Mathlib.Omega.{arith}
 use native.Mathlib.Nat.{le-refl}
-use Rattle.least.specs.Instants.{Greatest, bestTo}
+use borrow.Author.Tests.{lt-ltb, le-ltb}
+use Rattle.least.specs.Instants.{Greatest, bestTo, since, Peak}
 use Rattle.least.proofs.Count.{le-or-lt}
 
 pub greatest-unique : {φ : ℕ → ℕ} {r s : ℕ} → Greatest φ r → Greatest φ s → r ≡ s
@@ -69,3 +70,73 @@ greatest-found φ B b s = elim (best-reached φ B) [
   where
     all : (t : ℕ) → φ t ≤ bestTo φ B + t
     all = decides φ B (bestTo φ B) b s (best-above φ B)
+
+-- what bounds φ t − t everywhere bounds the best
+pub best-within : (φ : ℕ → ℕ) (r : ℕ) → ((t : ℕ) → φ t ≤ r + t) → (n : ℕ) → bestTo φ n ≤ r
+unfolding bestTo
+best-within φ r h zero = omega arith
+best-within φ r h (suc n) = omega (arith, h n, best-within φ r h n)
+
+module _ (a : ℕ) (φ : ℕ → ℕ) where
+  pub since-before : (t : ℕ) → t < a → since a φ t ≡ 0
+  unfolding since
+  since-before t h = rw (lt-ltb t a h)
+
+  pub since-on : (t : ℕ) → a ≤ t → since a φ t ≡ φ t
+  unfolding since
+  since-on t h = rw (le-ltb t a h)
+
+  pub since-le : (t : ℕ) → since a φ t ≤ φ t
+  since-le t = elim (le-or-lt a t) [
+    | inl h ↦ omega (arith, since-on t h)
+    | inr h ↦ omega (arith, since-before t h)
+  ]
+
+  pub best-none : (n : ℕ) → n ≤ a → bestTo (since a φ) n ≡ 0
+  unfolding bestTo
+  best-none zero h = refl
+  best-none (suc n) h = omega (arith, best-none n (omega arith), since-before n (omega arith))
+
+  -- an instant more, at which u is the peak or was before
+  module _ (n r u : ℕ) (peak : Peak φ a n r u) (on : a ≤ n) (best : r ≡ bestTo (since a φ) n) where
+    pub peak-new : (n′ r′ : ℕ) → r′ ≡ max r (φ n - n) → r < r′ → Peak φ a n′ r′ n
+    peak-new n′ r′ is h = record {
+      from = on;
+      earlier = λ t p q. omega (arith, best-above (since a φ) n t q, since-on t p);
+      reached = λ z. omega arith;
+    }
+
+    pub peak-kept : (n′ r′ : ℕ) → r′ ≡ max r (φ n - n) → r′ ≤ r → Peak φ a n′ r′ u
+    peak-kept n′ r′ is h = record {
+      from = peak .from;
+      earlier = λ t p q. omega (arith, peak .earlier t p q);
+      reached = λ z. elim (le-or-lt n a) [
+        | inl q ↦ first q
+        | inr q ↦ omega (arith, peak .reached q)
+      ];
+    }
+      where
+        first : n ≤ a → φ u - u ≡ r′
+        first q = elim (le-or-lt u n) [
+          | inl z ↦ (let same : u ≡ n = omega (arith, peak .from) in subst (λ t. φ t - t ≡ r′) (sym same) (omega (arith, best-none n q)))
+          | inr z ↦ absurd (omega (arith, peak .earlier n on z, best-none n q))
+        ]
+
+-- from 0 on is all
+pub best-all : (φ : ℕ → ℕ) (n : ℕ) → bestTo (since 0 φ) n ≡ bestTo φ n
+best-all φ n = best-ext (since 0 φ) φ (λ t. since-on 0 φ t (omega arith)) n
+
+pub peak-none : (φ : ℕ → ℕ) (a : ℕ) → Peak φ a a 0 a
+peak-none φ a = record { from = le-refl a; earlier = λ t p q. absurd (omega arith); reached = λ z. absurd (omega arith) }
+
+pub peak-unique : {φ : ℕ → ℕ} {a n r u v : ℕ} → Peak φ a n r u → Peak φ a n r v → (n ≤ a → r ≡ 0) → u ≡ v
+peak-unique {φ} {a} {n} {r} {u} {v} p q none = omega (arith, not-before p q, not-before q p)
+  where
+    not-before : {u v : ℕ} → Peak φ a n r u → Peak φ a n r v → u ≤ v
+    not-before {u} {v} p q = elim (le-or-lt u v) [
+      | inl h ↦ h
+      | inr h ↦ absurd (elim (le-or-lt n a) [
+        | inl z ↦ omega (arith, none z, p .earlier v (q .from) h)
+        | inr z ↦ omega (arith, q .reached z, p .earlier v (q .from) h)
+      ])
+    ]

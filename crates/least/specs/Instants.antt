@@ -1,6 +1,8 @@
 -- The maximum of φ t − t over all t ≥ 0.
 use mathlib.Core.Path.{_≡_}
-use Prim.Native.Nat.{ℕ, zero, suc, _+_, _-_, _≤_, max}
+use Prim.Native.Nat.{ℕ, zero, suc, _+_, _-_, _≤_, _<_, max}
+use lib.Dec.{ltb}
+use Rattle.least.specs.Count.{pick}
 
 -- r is that maximum: reached at an instant, and nowhere exceeded
 pub record Greatest (φ : ℕ → ℕ) (r : ℕ) : Type 0 where
@@ -12,3 +14,13 @@ pub record Greatest (φ : ℕ → ℕ) (r : ℕ) : Type 0 where
 unfoldable pub bestTo : (ℕ → ℕ) → ℕ → ℕ
 bestTo φ zero = 0
 bestTo φ (suc n) = max (bestTo φ n) (φ n - n)
+
+-- φ from the instant a on; nothing before it
+unfoldable pub since : ℕ → (ℕ → ℕ) → ℕ → ℕ
+since a φ t = pick (ltb t a) 0 (φ t)
+
+-- u is the first instant from a on at which φ t − t is r, the maximum over those below n; a, if there is none below n
+pub record Peak (φ : ℕ → ℕ) (a n r u : ℕ) : Type 0 where
+  pub from : a ≤ u
+  pub earlier : (t : ℕ) → a ≤ t → t < u → φ t - t < r
+  pub reached : a < n → φ u - u ≡ r

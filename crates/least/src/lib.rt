@@ -1,8 +1,9 @@
-// Mathematics with no flow in it: definitions in specs/, laws in proofs/. The code is the greater, the lesser and the difference of two numbers, a
-// short number as a long one, and a lent slice filled with a number.
+// Mathematics with no flow in it: definitions in specs/, laws in proofs/. The code is the greater, the lesser and the difference of two numbers, how
+// often one goes into another, a short number as a long one, and a lent slice filled with a number.
 ghost use mathlib.Core.Path.{_≡_};
 ghost use Prim.Native.Nat.{ℕ, _-_, _≤_, _<_, max, min};
 ghost use lib.ListN.{length};
+ghost use Rattle.least.specs.Count.{ceil};
 ghost use Rattle.least.specs.Lists.{values, Inside};
 
 pub fn greater(a: u64, b: u64) -> u64
@@ -25,6 +26,18 @@ pub fn less(a: u64, b: u64) -> u64
         return 0;
     }
     a - b
+}
+
+// ceil(x / T); 0 where T is 0.
+pub fn ceil(x: u64, t: u64) -> u64
+    requires { ⌜ (x ≤ 65536) × (t ≤ 65535) ⌝ }
+    ensures { λ r. ⌜ r ≡ ceil x t ⌝ }
+    ensures { λ r. ⌜ r ≤ 65536 ⌝ }
+{
+    if t == 0 {
+        return 0;
+    }
+    (x + (t - 1)) / t
 }
 
 pub fn short(x: u16) -> u64

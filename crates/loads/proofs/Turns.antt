@@ -19,19 +19,6 @@ use Rattle.nets.specs.Nets.{countIn, fieldIn, lengthIn, pathIn, flowIn}
 use Rattle.crossings.specs.Pairs.{costOn, sideNumber}
 use Rattle.loads.specs.Load.{slowestOn, weightIn, Weighed, packetsIn, loadBy, straysIn}
 
-module _ (x t : ℕ) where
-  pub ceil-none : t ≡ 0 → 0 ≡ ceil x t
-  unfolding ceil
-  ceil-none e = rw e (sym (div-zero (x + (0 - 1))))
-
-  pub ceil-made : (t ≡ 0 → ⊥) → (x + (t - 1)) / t ≡ ceil x t
-  unfolding ceil
-  ceil-made e = omega arith
-
-  pub ceil-most : x ≤ 65536 → (t ≡ 0 → ⊥) → (x + (t - 1)) / t ≤ 65536
-  unfolding ceil
-  ceil-most h e = let p : 0 < t = omega arith in ceil-le x t 65536 p (omega (arith, mul-le-mul-left {m = 1} {n = t} 65536 (omega arith)))
-
 -- b's slowest cost on a's path
 module _ (net : List ℕ) (a b : ℕ) where
   pub slowest-start : 0 ≡ maxTo 0 (costOn net a b)

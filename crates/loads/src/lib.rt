@@ -2,7 +2,6 @@
 ghost use mathlib.Core.Path.{_≡_};
 ghost use Prim.Native.Nat.{ℕ, _*_, _≤_, _<_};
 ghost use lib.ListN.{length};
-ghost use Rattle.least.specs.Count.{ceil};
 ghost use Rattle.least.specs.Lists.{values};
 ghost use Rattle.rules.specs.Judge.{busyLength, misplaced};
 ghost use Rattle.rules.specs.Valid.{Valid};
@@ -54,18 +53,6 @@ fn weigh(net: &[u16], pairs: &[u8], weights: &mut [u64], a: usize)
     }
 }
 
-// ceil(x / T); 0 where T is 0.
-fn ceil_of(x: u64, t: u64) -> u64
-    requires { ⌜ (x ≤ 65536) × (t ≤ 65535) ⌝ }
-    ensures { λ r. ⌜ r ≡ ceil x t ⌝ }
-    ensures { λ r. ⌜ r ≤ 65536 ⌝ }
-{
-    if t == 0 {
-        return 0;
-    }
-    (x + (t - 1)) / t
-}
-
 // The sum of which the busy length is the least solution, from the weights.
 fn load(net: &[u16], weights: &[u64], x: u64) -> u64
     requires { ⌜ Whole (now net) × (countIn (now net) ≤ length (now weights)) × (x ≤ 65536) × ((b : ℕ) → b < countIn (now net) → values (now weights) b ≤ 65535) ⌝ }
@@ -76,7 +63,7 @@ fn load(net: &[u16], weights: &[u64], x: u64) -> u64
     let mut sum: u64 = 0;
     let mut b: usize = 0;
     while b < n {
-        sum += ceil_of(x, nets::period(net, b)) * weights[b];
+        sum += least::ceil(x, nets::period(net, b)) * weights[b];
         b += 1;
     }
     sum

@@ -1,2 +1,3 @@
 -- The laws of `rounds`.
 pub mod Rounds
+pub mod Windows

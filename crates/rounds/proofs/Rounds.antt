@@ -24,7 +24,7 @@ use Rattle.crossings.proofs.Noting.{aside, own-aside, lower-aside}
 use Rattle.starts.specs.Runs.{mostTime, Low, LowTo}
 use Rattle.least.proofs.Stores.{set-cases, inside-none, inside-set, inside-then}
 use Rattle.rounds.specs.Reading.{equal, meetsEqual, readsOf, readsOwn, readsFlow}
-use Rattle.rounds.specs.Rounds.{RaisedIs, MarkedIs, ChosenIs}
+use Rattle.rounds.specs.Rounds.{freshMark, RaisedIs, MarkedIs, ChosenIs}
 
 -- raising
 pub record Raising (replies best : List ℕ) (at m : ℕ) (to : List ℕ) (rose k : ℕ) : Type 0 where
@@ -162,9 +162,6 @@ module _ (marks : List ℕ) (n : ℕ) where
       none = λ h. below-more (λ k. values marks k ≡ 0) b (i .none h) z;
     }
 
-    pub chosen-still : c < n → ChosenIs marks n b c → ChosenIs marks n (b + 1) c
-    chosen-still h i = record { most = i .most; marked = i .marked; none = λ q k r. absurd (omega arith) }
-
 pub chosen-end : (marks : List ℕ) (n b c : ℕ) → ChosenIs marks n b c → n ≤ b → ChosenIs marks n n c
 chosen-end marks n b c i h = record { most = i .most; marked = i .marked; none = λ q k r. i .none q k (omega arith) }
 
@@ -181,7 +178,7 @@ module _ (marks net : List ℕ) (a n : ℕ) where
   }
 
   module _ (room : n ≤ length marks) (to : List ℕ) (b : ℕ) (m : Marking marks net a n to b) (on : b < n) (v : ℕ)
-      (kept : readsFlow net b a ≡ false → v ≡ values to b) (new : readsFlow net b a ≡ true → v ≡ 1) where
+      (kept : readsFlow net b a ≡ false → v ≡ values to b) (new : readsFlow net b a ≡ true → v ≡ freshMark) where
     here : values (set to b v) b ≡ v
     here = getD-set-same to b v 0 (omega (arith, m .done .others .long))
 
@@ -195,7 +192,7 @@ module _ (marks net : List ℕ) (a n : ℕ) where
         unread = below-more (λ k. readsFlow net k a ≡ false → values (set to b v) k ≡ values marks k) b
             (λ k h z. there k (λ e. omega arith) ∙ m .done .unread k h z)
             (λ z. here ∙ kept z ∙ m .done .others .behind b (le-refl b));
-        read = below-more (λ k. readsFlow net k a ≡ true → values (set to b v) k ≡ 1) b
+        read = below-more (λ k. readsFlow net k a ≡ true → values (set to b v) k ≡ freshMark) b
             (λ k h z. there k (λ e. omega arith) ∙ m .done .read k h z)
             (λ z. here ∙ new z);
         others = inside-then 0 (b + 1) (omega arith) (omega arith) (omega arith) (omega arith) (m .done .others) (inside-set to b v);

@@ -7,6 +7,10 @@ use Rattle.least.specs.Lists.{values, Inside}
 use Rattle.starts.specs.Runs.{Low}
 use Rattle.rounds.specs.Reading.{readsFlow}
 
+-- the turns that a flow has once something that it reads has risen
+abbrev pub freshMark : ℕ
+freshMark = 4
+
 -- those at m places raised to best, the others as they were; rose tells whether one rose
 pub record RaisedIs (replies best : List ℕ) (at m : ℕ) (replies′ : List ℕ) (rose : ℕ) : Type 0 where
   pub inside : (k : ℕ) → k < m → values replies′ (at + k) ≡ max (values replies (at + k)) (values best k)
@@ -15,10 +19,10 @@ pub record RaisedIs (replies best : List ℕ) (at m : ℕ) (replies′ : List �
   pub risen : (rose ≡ 0 → ⊥) → (k : ℕ) × (k < m) × (values replies (at + k) < values best k)
   pub low : Low replies′
 
--- of the flows below n: marked if it reads flow a, otherwise as it was; the others as they were
+-- of the flows below n: all turns anew if it reads flow a, otherwise as it was; the others as they were
 pub record MarkedIs (marks net : List ℕ) (a n : ℕ) (marks′ : List ℕ) : Type 0 where
   pub unread : (b : ℕ) → b < n → readsFlow net b a ≡ false → values marks′ b ≡ values marks b
-  pub read : (b : ℕ) → b < n → readsFlow net b a ≡ true → values marks′ b ≡ 1
+  pub read : (b : ℕ) → b < n → readsFlow net b a ≡ true → values marks′ b ≡ freshMark
   pub others : Inside 0 n marks marks′
 
 -- among the flows below m: a marked one, or n if none is

@@ -1,13 +1,20 @@
 // Which flows are to be worked out again: what rose, who reads it, whose turn is next.
 ghost use mathlib.Core.Path.{_≡_};
 ghost use mathlib.Core.Bool.{true, false};
-ghost use Prim.Native.Nat.{_+_, _<_, _≤_};
+ghost use Prim.Native.Nat.{_+_, _*_, _<_, _≤_};
 ghost use lib.ListN.{length};
 ghost use Rattle.nets.specs.Nets.{few, Whole, countIn, flowIn};
 ghost use Rattle.crossings.specs.Pairs.{Noted};
 ghost use Rattle.starts.specs.Runs.{Low, LowTo};
 ghost use Rattle.rounds.specs.Reading.{meetsEqual, readsFlow, readsOwn};
-ghost use Rattle.rounds.specs.Rounds.{RaisedIs, MarkedIs, ChosenIs};
+ghost use Rattle.rounds.specs.Windows.{nearSteps, stepsOf, stepsIn, reachIn, TurnsLeft};
+ghost use Rattle.rounds.specs.Rounds.{freshMark, RaisedIs, MarkedIs, ChosenIs};
+
+// The turns of a flow once something that it reads has risen: some near its peak, wider ones, then a full scan. A mark is the number of turns left.
+pub const FRESH: u64 = 4;
+
+// A scan with no more steps is as short as a look near a peak.
+const FEW: u64 = 64;
 
 fn above(a: u64, b: u64) -> u64
     ensures { λ r. ⌜ (b ≤ a → r ≡ 0) × (a < b → r ≡ 1) × (r ≤ 1) ⌝ }
@@ -45,6 +52,75 @@ fn meets_equal(net: &[u16], pairs: &[u8], a: usize, b: usize) -> bool
     false
 }
 
+// The packets of flow b in x ticks, if it is one of a's priority that a meets.
+fn steps_of(net: &[u16], pairs: &[u8], a: usize, b: usize, x: u64) -> u64
+    requires { ⌜ Noted (now net) (now pairs) a b × (x ≤ 65536) ⌝ }
+    ensures { λ r. ⌜ r ≡ stepsOf (now (net .entry)) a x b ⌝ }
+    ensures { λ r. ⌜ r ≤ 65536 ⌝ }
+{
+    if meets_equal(net, pairs, a, b) {
+        return least::ceil(x, nets::period(net, b));
+    }
+    0
+}
+
+// About how many steps a scan of flow a over x ticks has.
+fn steps(net: &[u16], pairs: &[u8], a: usize, x: u64) -> u64
+    requires { ⌜ Noted (now net) (now pairs) a a × (x ≤ 65536) ⌝ }
+    ensures { λ r. ⌜ r ≡ stepsIn (now (net .entry)) a x ⌝ }
+{
+    let n = nets::count(net);
+    let mut sum = least::ceil(x, nets::period(net, a));
+    let mut b: usize = 0;
+    while b < n {
+        sum += steps_of(net, pairs, a, b, x);
+        b += 1;
+    }
+    sum
+}
+
+// How many steps to each side of its peak a flow is looked at, with that many turns left.
+fn near(turns: u64) -> u64
+    ensures { λ r. ⌜ (r ≡ nearSteps turns) × (r ≤ 1024) ⌝ }
+{
+    if turns == 2 {
+        return 1024;
+    }
+    if turns == 3 {
+        return 64;
+    }
+    4
+}
+
+// How many ticks to each side of its peak flow a is looked at, with that many turns left: as many as those steps take, or its whole busy length.
+pub fn reach(net: &[u16], pairs: &[u8], a: usize, turns: u64, busy: u64) -> u64
+    requires { ⌜ Noted (now net) (now pairs) a a × (busy ≤ 65536) ⌝ }
+    ensures { λ r. ⌜ r ≡ reachIn (now (net .entry)) a turns busy ⌝ }
+    ensures { λ r. ⌜ r ≤ 1024 * 65537 ⌝ }
+{
+    if turns <= 1 {
+        return busy;
+    }
+    let steps = steps(net, pairs, a, busy);
+    if steps <= FEW {
+        return busy;
+    }
+    near(turns) * (1 + busy / steps)
+}
+
+// The turns left to a flow after one that looked so far to each side.
+pub fn turns_left(turns: u64, rose: u64, far: u64, busy: u64) -> u64
+    ensures { λ r. ⌜ TurnsLeft turns rose far busy r ⌝ }
+{
+    if busy <= far {
+        return 0;
+    }
+    if rose == 0 {
+        return least::less(turns, 1);
+    }
+    FRESH
+}
+
 // Whether flow a reads its own arrival bounds: for an equal flow that it meets.
 fn reads_own(net: &[u16], pairs: &[u8], a: usize) -> bool
     requires { ⌜ Noted (now net) (now pairs) a a ⌝ }
@@ -80,15 +156,15 @@ fn reads(net: &[u16], pairs: &[u8], b: usize, a: usize) -> bool
 }
 
 fn marked(mark: u64, read: bool) -> u64
-    ensures { λ r. ⌜ (read ≡ false → r ≡ mark) × (read ≡ true → r ≡ 1) ⌝ }
+    ensures { λ r. ⌜ (read ≡ false → r ≡ mark) × (read ≡ true → r ≡ freshMark) ⌝ }
 {
     if read {
-        return 1;
+        return FRESH;
     }
     mark
 }
 
-// A mark for each flow that reads flow a.
+// All turns anew for each flow that reads flow a.
 pub fn mark(net: &[u16], pairs: &[u8], marks: &mut [u64], a: usize)
     requires { ⌜ Noted (now net) (now pairs) a a × (countIn (now net) ≤ length (now marks)) ⌝ }
     ensures { λ r. ⌜ MarkedIs (now (marks .entry)) (now (net .entry)) a (countIn (now (net .entry))) (now (marks .exit)) ⌝ }
@@ -110,7 +186,7 @@ fn comes_next(last: usize, chosen: usize, b: usize) -> bool {
     last < b
 }
 
-// Flow b, if it is marked and more urgent than the one chosen, or as urgent and next in the round; n stands for none.
+// Flow b, if it is marked and has more turns left than the one chosen, or as many and is more urgent, or as urgent and next in the round; n stands for none.
 fn prefer(net: &[u16], marks: &[u64], last: usize, chosen: usize, b: usize, n: usize) -> usize
     requires { ⌜ Whole (now net) × (n ≡ countIn (now net)) × (n ≤ length (now marks)) × (b < n) × (chosen ≤ n) ⌝ }
     ensures { λ r. ⌜ (ChosenIs (now (marks .entry)) n b chosen → ChosenIs (now (marks .entry)) n (b + 1) r) ⌝ }
@@ -121,6 +197,12 @@ fn prefer(net: &[u16], marks: &[u64], last: usize, chosen: usize, b: usize, n: u
     }
     if n <= chosen {
         return b;
+    }
+    if marks[chosen] < marks[b] {
+        return b;
+    }
+    if marks[b] < marks[chosen] {
+        return chosen;
     }
     let old = nets::priority(net, chosen);
     let new = nets::priority(net, b);
@@ -136,7 +218,8 @@ fn prefer(net: &[u16], marks: &[u64], last: usize, chosen: usize, b: usize, n: u
     chosen
 }
 
-// A marked flow of greatest priority, of several the next after last, so that each gets its turn; as many as there are if none is marked.
+// A marked flow of greatest mark, of these one of greatest priority, of several the next after last, so that each gets its turn; as many as there are if
+// none is marked.
 pub fn choose(net: &[u16], marks: &[u64], last: usize) -> usize
     requires { ⌜ Whole (now net) × (countIn (now net) ≤ length (now marks)) ⌝ }
     ensures { λ r. ⌜ ChosenIs (now (marks .entry)) (countIn (now (net .entry))) (countIn (now (net .entry))) r ⌝ }

@@ -48,7 +48,7 @@ module _ (net busies : List ℕ) where
     pub settling-start : (marks₀ marks : List ℕ) → ((b : ℕ) → b < length marks₀ → values marks b ≡ 1) → length marks ≡ length marks₀ → countIn net ≤ length marks₀ →
         (a : ℕ) → ChosenIs marks (countIn net) (countIn net) a → Settling zeros marks a
     settling-start marks₀ marks all long room a chosen = record {
-      fair = record { low = λ x. omega (arith, zero-at x); bare = λ b k h q. zero-at (b * w + k); flags = most marks₀ marks 1 all long };
+      fair = record { low = λ x. omega (arith, zero-at x); bare = λ b k h q. zero-at (b * w + k); flags = λ b h. omega (arith, most marks₀ marks 1 all long b) };
       chosen = chosen;
       good = λ val ready busy. good-start N val ready w zeros marks zero-at (λ b h z. omega (arith, flows-length net, all b (omega (arith, flows-length net))));
     }

@@ -83,21 +83,23 @@ module _ (N : Net) (val : Valid N) (ready : (i : Flow) → Here N i → Ready N 
     good-past a k ha hk over =
         past-none N ready (arrivalsIn N w replies) (good .under) (flowAt N a) (flow-here N a ha) (nodeAt (flowAt N a) k) (on-node a k hk) over
 
-    -- a flow that is up to date loses its mark
-    pub good-still : (a : ℕ) (marks′ : List ℕ) → ((k : ℕ) → k < length (flowAt N a .path) → due N w replies a k ≤ held w replies a k) →
-        ((b : ℕ) → b < n → values marks′ b ≡ 0 → (b ≡ a) ⊎ (values marks b ≡ 0)) → Good N w replies marks′
-    good-still a marks′ still clear = record {
+    -- a flow loses its mark only if it is up to date
+    pub good-still : (a : ℕ) (marks′ : List ℕ) →
+        ((b : ℕ) → b < n → values marks′ b ≡ 0 →
+        ((b ≡ a) × ((k : ℕ) → k < length (flowAt N a .path) → due N w replies a k ≤ held w replies a k)) ⊎ (values marks b ≡ 0)) →
+        Good N w replies marks′
+    good-still a marks′ clear = record {
       up = good .up;
       under = good .under;
       done = λ b k hb hk z. elim (clear b hb z) [
-        | inl e ↦ subst (λ c. (k < length (flowAt N c .path)) → c < n → held w replies c k ≡ due N w replies c k) (sym e) (λ q r. omega (arith, still k q, good .up a k r q)) hk hb
+        | inl e ↦ subst (λ c. (k < length (flowAt N c .path)) → c < n → held w replies c k ≡ due N w replies c k) (sym (e .0)) (λ q r. omega (arith, e .1 k q, good .up a k r q)) hk hb
         | inr y ↦ good .done b k hb hk y
       ];
     }
 
-    -- a flow is raised to what is due
+    -- a flow is raised, to no more than what is due
     module _ (a : ℕ) (ha : a < n) (replies′ : List ℕ)
-        (raised : (k : ℕ) → k < length (flowAt N a .path) → held w replies′ a k ≡ due N w replies a k)
+        (raised : (k : ℕ) → k < length (flowAt N a .path) → (held w replies a k ≤ held w replies′ a k) × (held w replies′ a k ≤ due N w replies a k))
         (kept : (b k : ℕ) → b < n → k < length (flowAt N b .path) → (b ≡ a → ⊥) → held w replies′ b k ≡ held w replies b k) where
       either : (b k : ℕ) → b < n → k < length (flowAt N b .path) → (held w replies b k ≤ held w replies′ b k) × (held w replies′ b k ≤ due N w replies b k)
       either b k hb hk = go (eqb b a) refl
@@ -105,7 +107,7 @@ module _ (N : Net) (val : Valid N) (ready : (i : Flow) → Here N i → Ready N 
           go : (t : Bool) → eqb b a ≡ t → (held w replies b k ≤ held w replies′ b k) × (held w replies′ b k ≤ due N w replies b k)
           go true e =
               subst (λ c. (k < length (flowAt N c .path)) → c < n → (held w replies c k ≤ held w replies′ c k) × (held w replies′ c k ≤ due N w replies c k)) (sym (eqb-true b a e))
-              (λ q r. (omega (arith, raised k q, good .up a k r q), omega (arith, raised k q))) hk hb
+              (λ q r. raised k q) hk hb
           go false e = (omega (arith, kept b k hb hk (eqb-false b a e)), omega (arith, kept b k hb hk (eqb-false b a e), good .up b k hb hk))
 
       S : Arrivals
@@ -157,7 +159,10 @@ module _ (N : Net) (val : Valid N) (ready : (i : Flow) → Here N i → Ready N 
                     (λ q r. le-of-eq (sym (same (q .node) (visits-member r)))) 0 0 (le-refl 0) (k .1),
               )
 
-      pub good-raised : (marks′ : List ℕ) → ((b : ℕ) → b < n → values marks′ b ≡ 0 → ((b ≡ a) ⊎ (values marks b ≡ 0)) × Unread N b a) → Good N w replies′ marks′
+      pub good-raised : (marks′ : List ℕ) →
+          ((b : ℕ) → b < n → values marks′ b ≡ 0 →
+          (((b ≡ a) × ((k : ℕ) → k < length (flowAt N a .path) → due N w replies a k ≤ held w replies′ a k)) ⊎ (values marks b ≡ 0)) × Unread N b a) →
+          Good N w replies′ marks′
       unfolding S S′
       good-raised marks′ clear = record {
         up = λ b k hb hk. le-trans (either b k hb hk .1) (more b k hb hk);
@@ -165,8 +170,10 @@ module _ (N : Net) (val : Valid N) (ready : (i : Flow) → Here N i → Ready N 
         done = λ b k hb hk z. up-to-date b k hb hk (clear b hb z .0) ∙ same b k hb hk (clear b hb z .1);
       }
         where
-          up-to-date : (b k : ℕ) → b < n → k < length (flowAt N b .path) → (b ≡ a) ⊎ (values marks b ≡ 0) → held w replies′ b k ≡ due N w replies b k
-          up-to-date b k hb hk (inl e) = subst (λ c. (k < length (flowAt N c .path)) → held w replies′ c k ≡ due N w replies c k) (sym e) (raised k) hk
+          up-to-date : (b k : ℕ) → b < n → k < length (flowAt N b .path) →
+              ((b ≡ a) × ((k : ℕ) → k < length (flowAt N a .path) → due N w replies a k ≤ held w replies′ a k)) ⊎ (values marks b ≡ 0) → held w replies′ b k ≡ due N w replies b k
+          up-to-date b k hb hk (inl e) =
+              subst (λ c. (k < length (flowAt N c .path)) → held w replies′ c k ≡ due N w replies c k) (sym (e .0)) (λ q. omega (arith, raised k q .1, e .1 k q)) hk
           up-to-date b k hb hk (inr z) = omega (arith, either b k hb hk .0, either b k hb hk .1, good .done b k hb hk z)
 
           same : (b k : ℕ) → b < n → k < length (flowAt N b .path) → Unread N b a → due N w replies b k ≡ due N w replies′ b k

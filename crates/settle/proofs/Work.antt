@@ -3,13 +3,14 @@ use mathlib.Core.Path.{_≡_, refl, sym, ap, _∙_, subst}
 use mathlib.Core.Bool.{Bool, true, false}
 use mathlib.Core.Logic.{_⊎_, inl, inr}
 use mathlib.Core.List.{List}
-use Prim.Native.Nat.{ℕ, _+_, _-_, _*_, _≤_, _<_}
+use Prim.Native.Nat.{ℕ, _+_, _-_, _*_, _≤_, _<_, max}
 use native.Mathlib.Omega.{arith}
 use native.Mathlib.Nat.{le-refl, le-of-eq, mul-le-mul-right}
 use lib.Dec.{eqb}
 use lib.ListN.{length, set}
 use lib.Seq.{getD-set-same, getD-set-other, ext-getD}
 use borrow.Author.Tests.{eqb-true, eqb-false}
+use Rattle.least.specs.Fold.{sumTo}
 use Rattle.least.specs.Lists.{values}
 use Rattle.least.proofs.Count.{le-or-lt}
 use Rattle.least.proofs.Fold.{false-true, sum-to-lt, sum-to-bound}
@@ -23,12 +24,14 @@ use Rattle.nets.specs.Nets.{countIn, roomIn, lengthIn, netIn, flowAt}
 use Rattle.nets.proofs.Reading.{path-length, flows-length, flow-at}
 use Rattle.nets.proofs.Sets.{flow-here}
 use Rattle.starts.specs.Runs.{mostTime, ResponsesAre}
-use Rattle.least.proofs.Stores.{set-cases}
+use Rattle.starts.specs.declared.Bounded.{Bounded}
+use Rattle.starts.specs.declared.Bounded.the-variants.{At, Past}
 use Rattle.sheets.specs.Sheets.{SheetIs}
-use Rattle.sheets.proofs.Whole.{responded, responded-past}
+use Rattle.sheets.proofs.Whole.{responded, responded-below, responded-past}
 use Rattle.rounds.specs.Reading.{readsFlow, Unread}
-use Rattle.settle.specs.Good.{due}
-use Rattle.rounds.specs.Rounds.{RaisedIs, MarkedIs}
+use Rattle.settle.specs.Good.{held, due}
+use Rattle.rounds.specs.Rounds.{freshMark, RaisedIs, MarkedIs}
+use Rattle.rounds.specs.Windows.{TurnsLeft}
 use Rattle.settle.specs.Turns.{total, Fair, left, BusiesAre, TurnIs}
 use Rattle.settle.proofs.Reading.{unread-is}
 use Rattle.settle.proofs.Steps.{good-past, good-still, good-raised}
@@ -36,7 +39,7 @@ use Rattle.settle.proofs.Steps.{good-past, good-still, good-raised}
 pub path-long : (net : List ℕ) (b : ℕ) → b < countIn net → length (flowAt (netIn net) b .path) ≡ lengthIn net b
 path-long net b h = ap (λ j. length (j .path)) (flow-at net b h) ∙ path-length net b
 
--- what is left falls by a mark; and by a response bound, however many of n flows are marked then
+-- what is left falls by a mark; and by a response bound, however many marks there are then of at most n
 fewer-marks : (x n s s′ : ℕ) → s′ < s → x * (n + 1) + s′ < x * (n + 1) + s
 fewer-marks x n s s′ h = omega arith
 
@@ -84,43 +87,50 @@ module _ (replies best : List ℕ) (at m : ℕ) (replies′ : List ℕ) (rose : 
       let r = raised .risen z in
       sum-to-lt size (at + r .0) (values replies) (values replies′) (omega (arith, r .1)) (λ j q. grows j) (omega (arith, raised .inside (r .0) (r .1), r .2))
 
--- the mark of the flow at hand is taken away
-module _ (net replies marks : List ℕ) (a : ℕ) (inside : a < length marks) where
-  pub unmarked-fair : Fair net replies marks → Fair net replies (set marks a 0)
-  unmarked-fair fair = record {
-    low = fair .low;
-    bare = fair .bare;
-    flags = set-cases (λ j v. v ≤ 1) marks a 0 inside (omega arith) (λ j q. fair .flags j);
-  }
+-- of the flows below n, that at hand has t turns left now, the others as many as before
+pub record Turned (n : ℕ) (marks : List ℕ) (a t : ℕ) (marks′ : List ℕ) : Type 0 where
+  pub own : values marks′ a ≡ t
+  pub others : (b : ℕ) → b < n → (b ≡ a → ⊥) → values marks′ b ≡ values marks b
 
-  fewer : (b : ℕ) → values (set marks a 0) b ≤ values marks b
-  fewer = set-cases (λ j v. v ≤ values marks j) marks a 0 inside (omega arith) (λ j q. le-refl _)
+pub turned-set : {n : ℕ} (marks : List ℕ) (a t : ℕ) → a < length marks → Turned n marks a t (set marks a t)
+turned-set marks a t h = record { own = getD-set-same marks a t 0 h; others = λ b on ne. getD-set-other marks a b t 0 ne }
 
-  pub unmarked-left : a < countIn net → (values marks a ≡ 0 → ⊥) → left net replies (set marks a 0) < left net replies marks
-  unmarked-left on z =
-      fewer-marks _ (countIn net) _ _
-      (sum-to-lt (countIn net) a (values (set marks a 0)) (values marks) on (λ j q. fewer j)
-      (omega (arith, getD-set-same marks a 0 0 inside, positive (values marks a) z)))
+-- what stands behind the marks is none of them
+pub turned-behind : {n : ℕ} {marks marks′ : List ℕ} {a t : ℕ} (k v : ℕ) → a < n → n ≤ k → Turned n marks a t marks′ → Turned n marks a t (set marks′ k v)
+turned-behind {n} {marks} {marks′} {a} {t} k v on behind turned = record {
+  own = getD-set-other marks′ k a v 0 (λ e. omega arith) ∙ turned .own;
+  others = λ b h ne. getD-set-other marks′ k b v 0 (λ e. omega arith) ∙ turned .others b h ne;
+}
+
+module _ {n : ℕ} {marks marks′ : List ℕ} {a t : ℕ} (turned : Turned n marks a t marks′) where
+  by-flow : (P : ℕ → ℕ → Type 0) → P a t → ((b : ℕ) → b < n → P b (values marks b)) → (b : ℕ) → b < n → P b (values marks′ b)
+  by-flow P here there b on = go (eqb b a) refl
     where
-      positive : (n : ℕ) → (n ≡ 0 → ⊥) → 0 < n
-      positive n z = omega arith
+      go : (z : Bool) → eqb b a ≡ z → P b (values marks′ b)
+      go true e = subst (λ c. P c (values marks′ c)) (sym (eqb-true b a e)) (subst (P a) (sym (turned .own)) here)
+      go false e = subst (P b) (sym (turned .others b on (eqb-false b a e))) (there b on)
 
-  pub unmarked-clear : (b : ℕ) → values (set marks a 0) b ≡ 0 → (b ≡ a) ⊎ (values marks b ≡ 0)
-  unmarked-clear b z = go (eqb b a) refl
-    where
-      go : (t : Bool) → eqb b a ≡ t → (b ≡ a) ⊎ (values marks b ≡ 0)
-      go true e = inl (eqb-true b a e)
-      go false e = inr (sym (getD-set-other marks a b 0 0 (eqb-false b a e)) ∙ z)
+  turned-flags : t ≤ freshMark → ((b : ℕ) → b < n → values marks b ≤ freshMark) → (b : ℕ) → b < n → values marks′ b ≤ freshMark
+  turned-flags few flags = by-flow (λ b v. v ≤ freshMark) few flags
 
--- a run over the sheet of flow a, whose mark is there to take away
-pub record Ran (net busies replies marks : List ℕ) (a : ℕ) (sheet : List ℕ) (m : ℕ) (past : Bool) (best : List ℕ) : Type 0 where
+  turned-left : a < n → t < values marks a → sumTo n (values marks′) < sumTo n (values marks)
+  turned-left on h =
+      sum-to-lt n a (values marks′) (values marks) on (by-flow (λ b v. v ≤ values marks b) (omega arith) (λ b q. le-refl _)) (omega (arith, turned .own))
+
+  turned-clear : (b : ℕ) → b < n → values marks′ b ≡ 0 → ((b ≡ a) × (t ≡ 0)) ⊎ (values marks b ≡ 0)
+  turned-clear = by-flow (λ b v. v ≡ 0 → ((b ≡ a) × (t ≡ 0)) ⊎ (values marks b ≡ 0)) (λ z. inl (refl, z)) (λ b on z. inr z)
+
+-- a run over the sheet of flow a from one instant to another: with its last turn, and wherever it looks as far, over all of its busy length
+pub record Ran (net busies replies marks : List ℕ) (a : ℕ) (sheet : List ℕ) (m from end far : ℕ) (out : Bounded) (best : List ℕ) : Type 0 where
   pub on : a < countIn net
-  pub inside : a < length marks
   pub written : Valid (netIn net) → SheetIs (netIn net) (roomIn net) (values replies) a sheet
   pub long : m ≡ lengthIn net a
-  pub run : ResponsesAre sheet m (values busies a) past best
+  pub run : ResponsesAre sheet m from end out best
+  pub all : values busies a ≤ far → (from ≡ 0) × (end ≡ values busies a)
+  pub last : values marks a ≤ 1 → values busies a ≤ far
 
-module _ {net busies replies marks : List ℕ} {a : ℕ} {sheet : List ℕ} {m : ℕ} {past : Bool} {best : List ℕ} (ran : Ran net busies replies marks a sheet m past best) where
+module _ {net busies replies marks : List ℕ} {a : ℕ} {sheet : List ℕ} {m from end far : ℕ} {out : Bounded} {best : List ℕ}
+    (ran : Ran net busies replies marks a sheet m from end far out best) where
   abbrev N : Net
   N = netIn net
 
@@ -137,53 +147,97 @@ module _ {net busies replies marks : List ℕ} {a : ℕ} {sheet : List ℕ} {m :
   short b = omega arith
 
   module _ (val : Valid N) (ready : (i : Flow) → Here N i → Ready N i) (busy : BusiesAre net busies) where
-    its-run : ResponsesAre sheet (length (flowAt N a .path)) (busyLength N (flowAt N a)) past best
-    its-run =
-        subst (λ c. ResponsesAre sheet c (busyLength N (flowAt N a)) past best) (ran .long ∙ sym (path-long net a (ran .on)))
-        (subst (λ b. ResponsesAre sheet m b past best) (busy a (ran .on) ∙ ap (busyLength N) (sym (flow-at net a (ran .on)))) (ran .run))
+    its-run : ResponsesAre sheet (length (flowAt N a .path)) from end out best
+    its-run = subst (λ c. ResponsesAre sheet c from end out best) (ran .long ∙ sym (path-long net a (ran .on))) (ran .run)
 
-    best-is : past ≡ false → (k : ℕ) → k < length (flowAt N a .path) → values best k ≡ due N w replies a k
-    best-is e = responded N val w (values replies) a (here a (ran .on)) sheet (ran .written val) (ready (flowAt N a) (flow-here N a (here a (ran .on)))) past best its-run e
+    its-ready : Ready N (flowAt N a)
+    its-ready = ready (flowAt N a) (flow-here N a (here a (ran .on)))
 
-    past-is : past ≡ true → (k : ℕ) × (k < length (flowAt N a .path)) × (horizon < due N w replies a k)
-    past-is e = responded-past N val w (values replies) a (here a (ran .on)) sheet (ran .written val) (ready (flowAt N a) (flow-here N a (here a (ran .on)))) past best its-run e
+    module _ (v : ℕ) (is : out ≡ At v) (k : ℕ) (h : k < length (flowAt N a .path)) where
+      best-below : values best k ≤ due N w replies a k
+      best-below = responded-below N val w (values replies) a (here a (ran .on)) sheet (ran .written val) its-ready from end out best its-run v is k h
 
-  pub turn-past : past ≡ true → TurnIs net busies replies marks a true replies (set marks a 0)
+      best-is : values busies a ≤ far → values best k ≡ due N w replies a k
+      best-is full =
+          responded N val w (values replies) a (here a (ran .on)) sheet (ran .written val) its-ready from end out best its-run v is k h
+          (ran .all full .0) (ran .all full .1 ∙ busy a (ran .on) ∙ ap (busyLength N) (sym (flow-at net a (ran .on))))
+
+    past-is : out ≡ Past → (k : ℕ) × (k < length (flowAt N a .path)) × (horizon < due N w replies a k)
+    past-is e = responded-past N val w (values replies) a (here a (ran .on)) sheet (ran .written val) its-ready from end out best its-run e
+
+  pub turn-past : out ≡ Past → TurnIs net busies replies marks a true replies marks
   turn-past e = record {
     falls = λ f. false-true (sym f);
     keeps = λ val ready busy good. (let q = past-is val ready busy e in good-past N val ready w replies marks good a (q .0) (here a (ran .on)) (q .1) (q .2));
   }
 
-  module _ (clear : past ≡ false) {at : ℕ} (first : at ≡ a * roomIn net) {replies′ : List ℕ} {rose : ℕ} (raised : RaisedIs replies best at m replies′ rose) where
-    pub turn-still : rose ≡ 0 → TurnIs net busies replies marks a false replies′ (set marks a 0)
-    turn-still z = subst (λ r. TurnIs net busies replies marks a false r (set marks a 0)) (sym (still-same replies best at m replies′ rose raised z)) record {
-      falls = λ e. unmarked-left net replies marks a (ran .inside) (ran .on);
-      keeps = λ val ready busy good.
-          good-still N val ready w replies marks good a (set marks a 0)
-          (λ k h. omega (arith, best-is val ready busy clear k h, raised .still z k (omega (arith, path-long net a (ran .on))), ap (λ c. values replies (c + k)) first))
-          (λ b h. unmarked-clear net replies marks a (ran .inside) b);
-    }
+  module _ (v : ℕ) (clear : out ≡ At v) {at : ℕ} (first : at ≡ a * roomIn net) {replies′ : List ℕ} {rose : ℕ} (raised : RaisedIs replies best at m replies′ rose)
+      {t : ℕ} (lowered : TurnsLeft (values marks a) rose far (values busies a) t) (fair : Fair net replies marks) where
+    -- it has none only after a look over all
+    none-full : t ≡ 0 → values busies a ≤ far
+    none-full z = elim (le-or-lt (values busies a) far) [
+      | inl h ↦ h
+      | inr h ↦ elim (le-or-lt (values marks a) 1) [ inl g ↦ ran .last g | inr g ↦ some h (eqb rose 0) refl g ]
+    ]
+      where
+        some : far < values busies a → (x : Bool) → eqb rose 0 ≡ x → 1 < values marks a → values busies a ≤ far
+        some h true e g = absurd (omega (arith, lowered .less h (eqb-true rose 0 e)))
+        some h false e g = absurd (omega (arith, lowered .anew h (eqb-false rose 0 e)))
 
-    pub still-fair : rose ≡ 0 → Fair net replies marks → Fair net replies′ (set marks a 0)
-    still-fair z fair = subst (λ r. Fair net r (set marks a 0)) (sym (still-same replies best at m replies′ rose raised z)) (unmarked-fair net replies marks a (ran .inside) fair)
+    few-turns : t ≤ freshMark
+    few-turns = elim (le-or-lt (values busies a) far) [
+      | inl h ↦ omega (arith, lowered .none h)
+      | inr h ↦ some h (eqb rose 0) refl
+    ]
+      where
+        some : far < values busies a → (x : Bool) → eqb rose 0 ≡ x → t ≤ freshMark
+        some h true e = omega (arith, lowered .less h (eqb-true rose 0 e), fair .flags a (ran .on))
+        some h false e = omega (arith, lowered .anew h (eqb-false rose 0 e))
 
-    module _ {marks′ : List ℕ} (marked : MarkedIs (set marks a 0) net a (countIn net) marks′) where
-      unraised : (b k : ℕ) → k < w → (b ≡ a → m ≤ k) → values replies′ (b * w + k) ≡ values replies (b * w + k)
-      unraised b k hk behind = elim (apart w m a b k (omega (arith, ran .long, short a)) hk behind) [
-        | inl h ↦ raised .others .before (b * w + k) (omega arith)
-        | inr h ↦ raised .others .behind (b * w + k) (omega arith)
-      ]
+    module _ {marks₁ : List ℕ} (turned : Turned (countIn net) marks a t marks₁) where
+      pub turn-still : rose ≡ 0 → TurnIs net busies replies marks a false replies′ marks₁ × Fair net replies′ marks₁
+      turn-still z = subst (λ r. TurnIs net busies replies marks a false r marks₁ × Fair net r marks₁) (sym (still-same replies best at m replies′ rose raised z)) (
+        record {
+          falls = λ e q. fewer-marks _ (countIn net * freshMark) _ _ (turned-left turned (ran .on) (fewer q));
+          keeps = λ val ready busy good.
+              good-still N val ready w replies marks good a marks₁ (λ b h q. elim (turned-clear turned b (there b h) q) [
+                | inl c ↦ inl (
+                  c .0,
+                  λ k on. omega (
+                    arith,
+                    best-is val ready busy v clear k on (none-full (c .1)),
+                    raised .still z k (omega (arith, path-long net a (ran .on))),
+                    ap (λ c. values replies (c + k)) first,
+                  ),
+                )
+                | inr c ↦ inr c
+              ]);
+        },
+        record { low = fair .low; bare = fair .bare; flags = turned-flags turned few-turns (fair .flags) },
+      )
+        where
+          fewer : (values marks a ≡ 0 → ⊥) → t < values marks a
+          fewer q = elim (le-or-lt (values busies a) far) [
+            | inl h ↦ omega (arith, lowered .none h, positive (values marks a) q)
+            | inr h ↦ omega (arith, lowered .less h z, positive (values marks a) q)
+          ]
+            where
+              positive : (n : ℕ) → (n ≡ 0 → ⊥) → 0 < n
+              positive n z = omega arith
 
-      module _ (fair : Fair net replies marks) where
-        flags : (b : ℕ) → values marks′ b ≤ 1
-        flags b = elim (le-or-lt (countIn net) b) [
-          | inl h ↦ omega (arith, marked .others .behind b h, unmarked-fair net replies marks a (ran .inside) fair .flags b)
-          | inr h ↦ go h (readsFlow net b a) refl
+      module _ {marks′ : List ℕ} (marked : MarkedIs marks₁ net a (countIn net) marks′) where
+        unraised : (b k : ℕ) → k < w → (b ≡ a → m ≤ k) → values replies′ (b * w + k) ≡ values replies (b * w + k)
+        unraised b k hk behind = elim (apart w m a b k (omega (arith, ran .long, short a)) hk behind) [
+          | inl h ↦ raised .others .before (b * w + k) (omega arith)
+          | inr h ↦ raised .others .behind (b * w + k) (omega arith)
         ]
+
+        flags : (b : ℕ) → b < countIn net → values marks′ b ≤ freshMark
+        flags b h = go (readsFlow net b a) refl
           where
-            go : b < countIn net → (t : Bool) → readsFlow net b a ≡ t → values marks′ b ≤ 1
-            go h true e = omega (arith, marked .read b h e)
-            go h false e = omega (arith, marked .unread b h e, unmarked-fair net replies marks a (ran .inside) fair .flags b)
+            go : (t : Bool) → readsFlow net b a ≡ t → values marks′ b ≤ freshMark
+            go true e = omega (arith, marked .read b h e)
+            go false e = omega (arith, marked .unread b h e, turned-flags turned few-turns (fair .flags) b h)
 
         pub raised-fair : Fair net replies′ marks′
         raised-fair = record {
@@ -193,24 +247,18 @@ module _ {net busies replies marks : List ℕ} {a : ℕ} {sheet : List ℕ} {m :
         }
           where
             behind : (b k : ℕ) → (countIn net ≤ b) ⊎ (lengthIn net b ≤ k) → b ≡ a → m ≤ k
-            behind b k (inl h) e = absurd (omega arith)
-            behind b k (inr h) e = omega (arith, ap (lengthIn net) e)
+            behind b k (inl h) e = absurd (omega (arith, ran .on))
+            behind b k (inr h) e = omega (arith, ran .long, ap (lengthIn net) e)
 
         pub turn-raised : (rose ≡ 0 → ⊥) → TurnIs net busies replies marks a false replies′ marks′
         turn-raised z = record {
-          falls = λ e q. fewer-below _ _ (countIn net) _ _ below (omega (arith, sum-to-bound (countIn net) (values marks′) 1 (λ j l. flags j)));
+          falls = λ e q.
+              fewer-below _ _ (countIn net * freshMark) _ _ below (sum-to-bound (countIn net) (values marks′) freshMark flags);
           keeps = λ val ready busy good.
               good-raised N val ready w replies marks good a (here a (ran .on)) replies′
-              (λ k h. omega (
-                arith,
-                raised .inside k (omega (arith, path-long net a (ran .on))),
-                ap (λ c. values replies (c + k)) first,
-                ap (λ c. values replies′ (c + k)) first,
-                best-is val ready busy clear k h,
-                good .up a k (here a (ran .on)) h,
-              ))
+              (λ k h. omega (arith, raised-at k h, best-below val ready busy v clear k h, good .up a k (here a (ran .on)) h))
               (λ b k hb hk ne. unraised b k (omega (arith, path-long net b (there b hb), short b)) (λ e. absurd (ne e)))
-              marks′ (λ b h q. cleared val b (there b h) q (readsFlow net b a) refl);
+              marks′ (λ b h q. cleared val ready busy b (there b h) q (readsFlow net b a) refl);
         }
           where
             size : ℕ
@@ -223,6 +271,22 @@ module _ {net busies replies marks : List ℕ} {a : ℕ} {sheet : List ℕ} {m :
               sum-to-bound size (values replies′) mostTime (λ j l. raised .low j),
             )
 
-            cleared : Valid N → (b : ℕ) → b < countIn net → values marks′ b ≡ 0 → (t : Bool) → readsFlow net b a ≡ t → ((b ≡ a) ⊎ (values marks b ≡ 0)) × Unread N b a
-            cleared val b h q true e = absurd (omega (arith, marked .read b h e))
-            cleared val b h q false e = (unmarked-clear net replies marks a (ran .inside) b (sym (marked .unread b h e) ∙ q), unread-is net val b a h (ran .on) e)
+            raised-at : (k : ℕ) → k < length (flowAt N a .path) → held w replies′ a k ≡ max (held w replies a k) (values best k)
+            raised-at k h = omega (
+              arith,
+              raised .inside k (omega (arith, ran .long, path-long net a (ran .on))),
+              ap (λ c. values replies (c + k)) first,
+              ap (λ c. values replies′ (c + k)) first,
+            )
+
+            cleared : Valid N → ((i : Flow) → Here N i → Ready N i) → BusiesAre net busies → (b : ℕ) → b < countIn net → values marks′ b ≡ 0 →
+                (t : Bool) → readsFlow net b a ≡ t →
+                (((b ≡ a) × ((k : ℕ) → k < length (flowAt N a .path) → due N w replies a k ≤ held w replies′ a k)) ⊎ (values marks b ≡ 0)) × Unread N b a
+            cleared val ready busy b h q true e = absurd (omega (arith, marked .read b h e))
+            cleared val ready busy b h q false e = (
+              elim (turned-clear turned b h (sym (marked .unread b h e) ∙ q)) [
+                | inl c ↦ inl (c .0, λ k on. omega (arith, raised-at k on, best-is val ready busy v clear k on (none-full (c .1))))
+                | inr c ↦ inr c
+              ],
+              unread-is net val b a h (ran .on) e,
+            )

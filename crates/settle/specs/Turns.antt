@@ -17,17 +17,18 @@ use Rattle.rules.specs.Ready.{Ready}
 use Rattle.nets.specs.Nets.{countIn, roomIn, lengthIn, flowIn, netIn}
 use Rattle.blocks.specs.Sheet.{Small}
 use Rattle.starts.specs.Runs.{mostTime, Low}
+use Rattle.rounds.specs.Rounds.{freshMark}
 use Rattle.settle.specs.Good.{held, Good, Outcome}
 
 -- all response bounds together, at that many places
 abbrev pub total : ℕ → List ℕ → ℕ
 total size replies = sumTo size (values replies)
 
--- what is lent has room
+-- what is lent has room; behind the marks stands each flow's peak
 pub record Room (net busies replies marks sheet slots steps best : List ℕ) : Type 0 where
   pub busies-long : countIn net ≤ length busies
   pub replies-long : countIn net * roomIn net ≤ length replies
-  pub marks-long : countIn net ≤ length marks
+  pub marks-long : countIn net + countIn net ≤ length marks
   pub sheet-long : 1 + roomIn net * (3 + 5 * countIn net) ≤ length sheet
   pub sheet-short : length sheet ≤ 16777216
   pub sheet-small : Small sheet
@@ -41,16 +42,16 @@ pub record Room (net busies replies marks sheet slots steps best : List ℕ) : T
 abbrev pub Bare : List ℕ → ℕ → List ℕ → Type 0
 Bare net n replies = (b k : ℕ) → k < roomIn net → (n ≤ b) ⊎ (lengthIn net b ≤ k) → held (roomIn net) replies b k ≡ 0
 
--- what holds of any state: response bounds within the horizon, none where no flow has one, marks 0 or 1
+-- what holds of any state: response bounds within the horizon, none where no flow has one, no more turns left than there are
 pub record Fair (net replies marks : List ℕ) : Type 0 where
   pub low : Low replies
   pub bare : Bare net (countIn net) replies
-  pub flags : (b : ℕ) → values marks b ≤ 1
+  pub flags : (b : ℕ) → b < countIn net → values marks b ≤ freshMark
 
 -- what is left to do: falls with each turn
 abbrev pub left : List ℕ → List ℕ → List ℕ → ℕ
 left net replies marks =
-    (countIn net * roomIn net * mostTime - total (countIn net * roomIn net) replies) * (countIn net + 1) + sumTo (countIn net) (values marks)
+    (countIn net * roomIn net * mostTime - total (countIn net * roomIn net) replies) * (countIn net * freshMark + 1) + sumTo (countIn net) (values marks)
 
 abbrev pub BusiesAre : List ℕ → List ℕ → Type 0
 BusiesAre net busies = (a : ℕ) → a < countIn net → values busies a ≡ busyLength (netIn net) (flowIn net a)

@@ -1,4 +1,6 @@
-// The least settled arrival bounds: response bounds raised from zero, flow by flow, until each is up to date. What is worked on is lent.
+// The least settled arrival bounds: response bounds raised from zero, flow by flow, until each is up to date. A look at some instants may raise them, since
+// W + C − t at any one is at most what is due; only a look at all shows that a flow is up to date. What is worked on is lent.
+use starts::Bounded;
 ghost use mathlib.Core.Path.{_≡_};
 ghost use Prim.Native.Nat.{ℕ, _+_, _*_, _<_};
 ghost use lib.ListN.{length};
@@ -9,7 +11,7 @@ ghost use Rattle.ways.specs.Ways.{WaysAre};
 ghost use Rattle.starts.specs.Runs.{LowTo};
 ghost use Rattle.settle.specs.Turns.{Room, Fair, TurnIs, SettleIs};
 
-// The response bounds of flow a worked out again, with those so far; whether one passes the horizon.
+// The response bounds of flow a worked out again, with those so far, near its peak or over all of its busy length; whether one passes the horizon.
 fn turn(
     net: &[u16],
     pairs: &[u8],
@@ -27,17 +29,32 @@ fn turn(
     ensures { λ r. ⌜ TurnIs (now (net .entry)) (now (busies .entry)) (now (replies .entry)) (now (marks .entry)) a r (now (replies .exit)) (now (marks .exit)) ⌝ }
     ensures { λ r. ⌜ Room (now (net .entry)) (now (busies .entry)) (now (replies .exit)) (now (marks .exit)) (now (sheet .exit)) (now (slots .exit)) (now (steps .exit)) (now (best .exit)) × Fair (now (net .entry)) (now (replies .exit)) (now (marks .exit)) ⌝ }
 {
-    marks[a] = 0;
     sheets::write(net, pairs, ways, replies, sheet, a);
+    let n = nets::count(net);
     let m = nets::hops(net, a);
-    let end = busies[a];
-    let stride = steps::KEPT + nets::count(net);
-    if starts::responses(sheet, slots, steps, best, m, stride, end) {
+    let busy = busies[a];
+    let far = rounds::reach(net, pairs, a, marks[a], busy);
+    let peak = least::lesser(marks[n + a], busy);
+    let from = least::less(peak, far);
+    let end = least::lesser(peak + far, busy);
+    let Bounded::At(at) = starts::responses(
+        sheet,
+        slots,
+        steps,
+        best,
+        m,
+        steps::KEPT + n,
+        from,
+        end,
+    ) else {
         return true;
-    }
-    if rounds::raise(replies, best, a * nets::room(net), m) == 0 {
+    };
+    let rose = rounds::raise(replies, best, a * nets::room(net), m);
+    marks[a] = rounds::turns_left(marks[a], rose, far, busy);
+    if rose == 0 {
         return false;
     }
+    marks[n + a] = at;
     rounds::mark(net, pairs, marks, a);
     false
 }

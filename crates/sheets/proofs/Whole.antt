@@ -1,18 +1,19 @@
 -- A whole sheet: its sums, starting times and response bounds are the rules'. Assumes nothing.
-use mathlib.Core.Path.{_≡_, sym, ap, _∙_, subst}
-use mathlib.Core.Bool.{Bool, true, false}
+use mathlib.Core.Path.{_≡_, sym, ap, ap₂, _∙_, subst}
+use mathlib.Core.Bool.{true}
 use mathlib.Core.List.{List}
-use Prim.Native.Nat.{ℕ, _+_, _-_, _*_, _<_}
+use Prim.Native.Nat.{ℕ, _+_, _-_, _*_, _≤_, _<_}
 use native.Mathlib.Omega.{arith}
-use native.Mathlib.Nat.{le-refl}
+use native.Mathlib.Nat.{le-refl, le-trans}
 use lib.ListN.{length, getD}
 use Rattle.least.specs.Fold.{sumTo, sumOf}
 use Rattle.least.specs.Lists.{values}
 use Rattle.least.specs.Fixed.{Least}
+use Rattle.least.specs.Instants.{bestTo, since}
 use Rattle.least.proofs.Count.{count-after}
 use Rattle.least.proofs.Fold.{sum-to-ext, sum-to-list}
 use Rattle.least.proofs.Fixed.{least-ext}
-use Rattle.least.proofs.Instants.{best-ext}
+use Rattle.least.proofs.Instants.{best-ext, best-within, since-le, best-all}
 use Rattle.rules.specs.Net.{Flow, Net}
 use Rattle.rules.specs.Formula.{horizon, visits, prefix, before, costAt, slowest, ownWeight, Arrivals, term3, term4, term5, term6, sum, arrivals}
 use Rattle.rules.specs.Valid.{Valid}
@@ -26,7 +27,9 @@ use Rattle.nets.proofs.Places.{visits-at, position-node, prefix-at}
 use Rattle.nets.proofs.Sets.{flow-here}
 use Rattle.terms.specs.Terms.{baseOf}
 use Rattle.blocks.specs.Sheet.{entriesIn, entryAt, added, termOf, sheetSum, seen, sums}
-use Rattle.starts.specs.Runs.{StartsOf, Maxima, ResponsesAre}
+use Rattle.starts.specs.Runs.{StartsOf, replyAt, Maxima, ResponsesAre}
+use Rattle.starts.specs.declared.Bounded.{Bounded}
+use Rattle.starts.specs.declared.Bounded.the-variants.{At, Past}
 use Rattle.frames.specs.Frames.{Entry, noEntry, EntryIs, Listed}
 use Rattle.entries.specs.Fields.{upTo, termBy, entriesTo, addedOf, responsesIn}
 use Rattle.sheets.specs.Sheets.{SheetIs}
@@ -108,34 +111,42 @@ module _ (N : Net) (val : Valid N) (w : ℕ) (r : ℕ → ℕ) (a : ℕ) (here :
     pub starts : StartsOf e m (λ u p. start N i S u (nodeAt i p))
     starts u p on = start-at-p p on ready u
 
-    module _ (past : Bool) (best : List ℕ) (run : ResponsesAre e m (busyLength N i) past best) where
-      found : Maxima e m (λ u p. start N i S u (nodeAt i p)) (busyLength N i) past best
+    -- W + C − t at place p is at most the response bound, whatever the instant
+    replies-below : (p : ℕ) → p < m → (t : ℕ) → replyAt e (λ u p. start N i S u (nodeAt i p)) p t ≤ response N i S (nodeAt i p) + t
+    unfolding addedOf
+    replies-below p on t =
+        let g = response-is N i ready S (nodeAt i p) (visited p on) in
+        omega (
+          arith,
+          sheet .added p on,
+          g .greatest .above t,
+          start-unique N i (ready .sound) S (g .W) (start N i S) (g .start) (start-is N i ready S) t (nodeAt i p) (visited p on),
+        )
+
+    module _ (A B : ℕ) (out : Bounded) (best : List ℕ) (run : ResponsesAre e m A B out best) where
+      found : Maxima e m (λ u p. start N i S u (nodeAt i p)) A B out best
       found = run .maxima (λ u p. start N i S u (nodeAt i p)) starts
 
-      added-is : (p : ℕ) → p < m → added e p ≡ costAt (i .path) (nodeAt i p) + i .jitter
-      unfolding addedOf
-      added-is p on = sheet .added p on
+      module _ (v : ℕ) (is : out ≡ At v) (p : ℕ) (on : p < m) where
+        best-is : values best p ≡ bestTo (since A (replyAt e (λ u p. start N i S u (nodeAt i p)) p)) B
+        best-is = subst (λ b. Maxima e m (λ u p. start N i S u (nodeAt i p)) A B b best) is found .0 p on
 
-      -- the response bounds of the rules, or one that is past the horizon
-      pub responded : past ≡ false → (p : ℕ) → p < m → values best p ≡ response N i S (nodeAt i p)
-      unfolding response
-      responded is p on =
-          subst (λ b. Maxima e m (λ u p. start N i S u (nodeAt i p)) (busyLength N i) b best) is found p on
-          ∙ best-ext _ _ (λ u. omega (arith, added-is p on)) (busyLength N i)
+        -- over some instants at most the response bound of the rules
+        pub responded-below : values best p ≤ response N i S (nodeAt i p)
+        responded-below =
+            let φ = replyAt e (λ u p. start N i S u (nodeAt i p)) p in
+            omega (arith, best-is, best-within (since A φ) (response N i S (nodeAt i p)) (λ t. le-trans (since-le A φ t) (replies-below p on t)) B)
 
-      pub responded-past : past ≡ true → (p : ℕ) × (p < m) × (horizon < response N i S (nodeAt i p))
+        -- over those of a busy length the response bound
+        pub responded : A ≡ 0 → B ≡ busyLength N i → values best p ≡ response N i S (nodeAt i p)
+        unfolding response addedOf
+        responded first last =
+            let φ = replyAt e (λ u p. start N i S u (nodeAt i p)) p in
+            best-is ∙ ap₂ (λ a b. bestTo (since a φ) b) first last ∙ best-all φ (busyLength N i)
+            ∙ best-ext _ _ (λ u. omega (arith, sheet .added p on)) (busyLength N i)
+
+      pub responded-past : out ≡ Past → (p : ℕ) × (p < m) × (horizon < response N i S (nodeAt i p))
       unfolding horizon
       responded-past is =
-          let q = subst (λ b. Maxima e m (λ u p. start N i S u (nodeAt i p)) (busyLength N i) b best) is found in
-          let p = q .2 .node in
-          let g = response-is N i ready S (nodeAt i p) (visited p (q .2 .on)) in (
-            p,
-            q .2 .on,
-            omega (
-              arith,
-              q .2 .past,
-              added-is p (q .2 .on),
-              g .greatest .above (q .0),
-              start-unique N i (ready .sound) S (g .W) (start N i S) (g .start) (start-is N i ready S) (q .0) (nodeAt i p) (visited p (q .2 .on)),
-            ),
-          )
+          let q = subst (λ b. Maxima e m (λ u p. start N i S u (nodeAt i p)) A B b best) is found in
+          (q .3 .node, q .3 .on, omega (arith, q .3 .past, replies-below (q .3 .node) (q .3 .on) (q .0)))

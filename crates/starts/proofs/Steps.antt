@@ -9,16 +9,17 @@ use lib.Dec.{eqb}
 use Rattle.least.specs.Count.{pick, count}
 use Rattle.least.specs.Fold.{sumTo}
 use Rattle.least.specs.Lists.{values}
-use Rattle.least.specs.Instants.{bestTo}
+use Rattle.least.specs.Instants.{bestTo, since}
 use Rattle.least.proofs.Count.{le-or-lt}
 use Rattle.least.proofs.Fold.{sum-to-lt, sum-to-ext}
 use Rattle.least.proofs.Fixed.{least-ext}
+use Rattle.least.proofs.Instants.{since-on}
 use Rattle.least.proofs.Steps.{step-none, step-first, step-more, best-still}
 use Rattle.blocks.specs.Sheet.{hereSlot, instantSlot, added, entriesIn, entryAt, termOf, lookTerm, instantSum, seen, sums, Fit}
 use Rattle.steps.specs.Steps.{NodeStep}
 use Rattle.blocks.proofs.Looks.{sheet-split}
 use Rattle.steps.proofs.Steps.{sum-rises}
-use Rattle.starts.specs.Runs.{StartsOf, prior}
+use Rattle.starts.specs.Runs.{StartsOf, replyAt}
 use Rattle.starts.specs.Steps.{SheetStep}
 use Rattle.starts.proofs.Sums.{start-found}
 
@@ -80,12 +81,10 @@ module _ (e : List ℕ) (m : ℕ) (fit : Fit e m) (W : ℕ → ℕ → ℕ) (sta
     pub starts-still : (p : ℕ) → p < m → W v p ≡ W u p
     starts-still p on = starts-below (suc p) p (omega arith) on
 
-  pub starts-prior : (p : ℕ) → p < m → prior W r p ≡ W u p
-  starts-prior p on = prior-is r (s .later) ∙ starts-still (r - 1) (omega (arith, s .later)) (omega (arith, s .later)) p on
-    where
-      prior-is : (r : ℕ) → u < r → prior W r p ≡ W (r - 1) p
-      prior-is zero h = absurd (omega arith)
-      prior-is (suc r) h = ap (λ v. W v p) (omega arith)
-
-  pub best-kept : (p : ℕ) → p < m → bestTo (λ u. W u p + added e p) r ≡ bestTo (λ u. W u p + added e p) (suc u)
-  best-kept p on = best-still (λ u. W u p + added e p) u r (s .later) (λ v a b. ap (λ w. w + added e p) (starts-still v a b p on))
+  pub best-kept : (from : ℕ) → from ≤ u → (p : ℕ) → p < m → bestTo (since from (replyAt e W p)) r ≡ bestTo (since from (replyAt e W p)) (suc u)
+  best-kept from h p on = best-still (since from (replyAt e W p)) u r (s .later) (λ v a b. omega (
+    arith,
+    since-on from (replyAt e W p) v (omega arith),
+    since-on from (replyAt e W p) u h,
+    starts-still v a b p on,
+  ))

@@ -2,7 +2,7 @@
 use mathlib.Core.Path.{_≡_, refl, sym}
 use mathlib.Core.Bool.{Bool, true, false}
 use mathlib.Core.List.{List}
-use Prim.Native.Nat.{ℕ, zero, suc, _-_, _≤_, _<_}
+use Prim.Native.Nat.{ℕ, _-_, _≤_, _<_}
 use native.Mathlib.Omega.{arith}
 use native.Mathlib.Nat.{le-refl, le-trans, le-of-eq}
 use lib.Dec.{eqb}
@@ -12,11 +12,11 @@ use Rattle.least.specs.Lists.{values}
 use Rattle.least.specs.Fixed.{Rising, Least, Under}
 use Rattle.least.specs.Starts.{Order}
 use Rattle.least.proofs.Fold.{sum-to-le}
-use Rattle.least.proofs.Fixed.{least-unique, least-ext, under-zero, under-ext}
+use Rattle.least.proofs.Fixed.{least-unique, least-ext, under-ext}
 use Rattle.least.proofs.Starts.{starts-within}
 use Rattle.blocks.specs.Sheet.{entriesIn, entryAt, hereSlot, instantSlot, nodeSlot, termOf, sheetSum, seen, sums, Fit}
 use Rattle.blocks.proofs.Terms.{term-le}
-use Rattle.starts.specs.Runs.{StartsOf, prior}
+use Rattle.starts.specs.Runs.{StartsOf}
 
 -- a sum rises with what its counts look at
 pub sheet-le : (e : List ℕ) (p : ℕ) (v v′ : ℕ → ℕ) →
@@ -75,18 +75,17 @@ module _ (e : List ℕ) (m : ℕ) (fit : Fit e m) where
           (starts u) (starts u′) p hp,
     )
 
-    -- those of the instant before are a start from below
-    pub prior-under : (u p : ℕ) → p < m → Under (sums e u p (W u)) (prior W u p)
-    prior-under zero p hp = under-zero (sums e 0 p (W 0))
-    prior-under (suc u) p hp = record {
+    -- those of an earlier instant are a start from below
+    pub later-under : (u u′ p : ℕ) → p < m → u ≤ u′ → Under (sums e u′ p (W u′)) (W u p)
+    later-under u u′ p hp hu = record {
       up = le-trans (le-of-eq (sym (starts u p hp .fixed)))
-          (sums-le u (suc u) p hp (omega arith) (W u) (W (suc u)) (λ l q. starts-rise u (suc u) l (omega arith) (omega arith)) (W u p) (W u p) (le-refl _));
-      low = λ v h. le-trans (starts-rise u (suc u) p hp (omega arith)) (starts (suc u) p hp .lowest v h);
+          (sums-le u u′ p hp hu (W u) (W u′) (λ l q. starts-rise u u′ l (omega arith) hu) (W u p) (W u p) (le-refl _));
+      low = λ v h. le-trans (starts-rise u u′ p hp hu) (starts u′ p hp .lowest v h);
     }
 
     -- what is least over the starting times before p is the starting time at p
     pub start-found : (u p w : ℕ) → p < m → (x : ℕ → ℕ) → ((l : ℕ) → l < p → x l ≡ W u l) → Least (sums e u p x) w → w ≡ W u p
     start-found u p w hp x h q = least-unique (least-ext (sums-same u p hp x (W u) h) q) (starts u p hp)
 
-    pub from-under : (u p : ℕ) → p < m → (x : ℕ → ℕ) → ((l : ℕ) → l < p → x l ≡ W u l) → Under (sums e u p x) (prior W u p)
-    from-under u p hp x h = under-ext (λ y. sym (sums-same u p hp x (W u) h y)) (prior-under u p hp)
+    pub from-under : (u p v : ℕ) → p < m → (x : ℕ → ℕ) → ((l : ℕ) → l < p → x l ≡ W u l) → Under (sums e u p (W u)) v → Under (sums e u p x) v
+    from-under u p v hp x h = under-ext (λ y. sym (sums-same u p hp x (W u) h y))

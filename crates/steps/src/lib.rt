@@ -146,13 +146,21 @@ fn advance_node(e: &[u64], steps: &mut [u64], p: usize, at: usize, u: u64, end: 
 }
 
 // What is kept of node p: begun at the first instant, taken on from the tick before at each later one.
-pub fn keep_node(e: &[u64], steps: &mut [u64], p: usize, at: usize, u: u64, end: u64) -> u64
-    requires { ⌜ Shaped (now e) (p + 1) × (u < end) × (end ≤ mostInstant) × (at + keptSize + entriesIn (now e) p ≤ length (now steps)) × (length (now steps) ≤ 16777216) ⌝ }
-    requires { ⌜ (0 < u → KeptAt (now e) end (u - 1) (now steps) p at) ⌝ }
+pub fn keep_node(
+    e: &[u64],
+    steps: &mut [u64],
+    p: usize,
+    at: usize,
+    from: u64,
+    u: u64,
+    end: u64,
+) -> u64
+    requires { ⌜ Shaped (now e) (p + 1) × (from ≤ u) × (u < end) × (end ≤ mostInstant) × (at + keptSize + entriesIn (now e) p ≤ length (now steps)) × (length (now steps) ≤ 16777216) ⌝ }
+    requires { ⌜ (from < u → KeptAt (now e) end (u - 1) (now steps) p at) ⌝ }
     ensures { λ r. ⌜ KeptAt (now (e .entry)) end u (now (steps .exit)) p at × NodeStep (now (e .entry)) p u end r ⌝ }
     ensures { λ r. ⌜ Inside at (at + keptSize + entriesIn (now (e .entry)) p) (now (steps .entry)) (now (steps .exit)) ⌝ }
 {
-    if u == 0 {
+    if u == from {
         return begin_node(e, steps, p, at, u, end);
     }
     advance_node(e, steps, p, at, u, end)

@@ -1,5 +1,6 @@
 -- `findings::find` meets its contract.
 use mathlib.Core.Path.{refl}
+use native.Mathlib.Omega.{arith}
 use borrow.Author.Needs.{needs}
 use Rattle.nets.specs.Nets.{countIn}
 use Rattle.findings.specs.Findings.{crossed, overloaded, Clear}
@@ -40,7 +41,9 @@ returns c =
     (found-at _ (n .result) _ (m .result) (n .ensures .0) (m .ensures) (c .if1 .taken), (refl, refl))
 
 note-busies-requires : tie.Need-note-busies-requires
-note-busies-requires c κs = search needs
+note-busies-requires c κs =
+    let room = c .before .before .before .before .before .before .before .before .before .before .before .before .before .before .before .before .before .before .before .before .before .pre .3 in
+    (search needs, omega (arith, room .marks-long), room .busies-long)
 
 first-overload-requires : tie.Need-first-overload-requires
 first-overload-requires c κs = search needs

@@ -25,8 +25,8 @@ loop-holds c = (search needs, search needs, search load-start)
 period-requires : tie.Need-period-requires Inv-loop μ-loop
 period-requires c κs = search needs
 
-ceil-of-requires : tie.Need-ceil-of-requires Inv-loop μ-loop
-ceil-of-requires c κs = search needs
+ceil-requires : tie.Need-ceil-requires Inv-loop μ-loop
+ceil-requires c κs = search needs
 
 mul-sum : tie.Need-mul-sum Inv-loop μ-loop
 mul-sum c = search needs
@@ -36,10 +36,10 @@ shared-slice-read-sum c = search needs
 
 most : (c : tie.After-shared-slice-known3 Inv-loop μ-loop) →
     let l = c .before .before .before .before in
-    c .before .ceil-of .result * values (l .before .before .before .before .args .weights .now) (l .loop .b) ≤ 65536 * 65535
+    c .before .ceil .result * values (l .before .before .before .before .args .weights .now) (l .loop .b) ≤ 65536 * 65535
 most c =
     let l = c .before .before .before .before in
-    packets-most _ _ (c .before .ceil-of .ensures .1) (l .before .before .before .before .pre .3 (l .loop .b) (omega arith))
+    packets-most _ _ (c .before .ceil .ensures .1) (l .before .before .before .before .pre .3 (l .loop .b) (omega arith))
 
 mul-sum-2 : tie.Need-mul-sum-2 Inv-loop μ-loop
 mul-sum-2 c = omega (arith, most c)
@@ -59,7 +59,7 @@ loop-again c =
     let l = f .before .before .before .loop in (
       search needs,
       omega (arith, most c),
-      load-more _ _ _ (l .b) (l .sum) (l .inv .2) _ (f .ceil-of .result) (f .before .period .ensures .0) (f .ceil-of .ensures .0),
+      load-more _ _ _ (l .b) (l .sum) (l .inv .2) _ (f .ceil .result) (f .before .period .ensures .0) (f .ceil .ensures .0),
     )
 
 returns : tie.Need-returns Inv-loop μ-loop
@@ -74,7 +74,7 @@ load-spec =
     count-requires
     loop-holds
     period-requires
-    ceil-of-requires
+    ceil-requires
     mul-sum
     shared-slice-read-sum
     mul-sum-2

@@ -33,7 +33,7 @@ loop-holds c =
     let x = s .args in
     let z = c .before .before .before .before .before .before .before .before .before .all-set in
     let y = c .before .before .before .before .before .all-set2 in
-    (settling-start (x .net .now) (x .busies .now) (x .replies .now) (z .last .0) (z .ensures .0) (z .ensures .1) (x .marks .now) (y .last .0) (y .ensures .0) (y .ensures .1) (s .pre .3 .marks-long) (c .choose .result) (c .choose .ensures), room-kept (s .pre .3) (z .ensures .1) (y .ensures .1) refl refl refl refl (s .pre .3 .sheet-small) (s .pre .3 .slots-small), refl, refl, refl, refl, refl, refl)
+    (settling-start (x .net .now) (x .busies .now) (x .replies .now) (z .last .0) (z .ensures .0) (z .ensures .1) (x .marks .now) (y .last .0) (y .ensures .0) (y .ensures .1) (omega (arith, s .pre .3 .marks-long)) (c .choose .result) (c .choose .ensures), room-kept (s .pre .3) (z .ensures .1) (y .ensures .1) refl refl refl refl (s .pre .3 .sheet-small) (s .pre .3 .slots-small), refl, refl, refl, refl, refl, refl)
 
 turn-requires : tie.Need-turn-requires Inv-loop μ-loop
 turn-requires c κs =
@@ -72,7 +72,7 @@ returns c =
     (settling-past (x .net .now) (x .busies .now) (t .last .1 .1 .1 .1 .0) (z .last .0) (z .ensures .0) (z .ensures .1) (l .replies) (l .marks) (l .a) (l .inv .0) (t .result) (t .last .1 .1 .1 .1 .0) (t .last .1 .1 .1 .1 .1 .0) (t .ensures .0) (c .before .before .before .before .if1 .taken), c .before .before .all-set3 .ensures .1 ∙ c .before .before .before .before .before .before .before .before .before .before .before .before .before .before .before .before .replies2 .given ∙ c .before .before .before .before .before .before .before .before .before .before .before .before .before .before .before .before .before .before .before .before .before .before .before .before .before .loop .inv .2 ∙ c .before .before .before .before .before .before .before .before .before .before .before .before .before .before .before .before .before .before .before .before .before .before .before .before .before .before .before .before .before .before .before .before .before .before .replies .given)
 
 choose-requires-2 : tie.Need-choose-requires-2 Inv-loop μ-loop
-choose-requires-2 c κs = (c .before .before .before .before .before .before .before .before .before .before .before .before .before .before .before .before .before .before .before .before .before .before .before .before .before .before .before .before .before .before .before .before .before .before .before .before .before .before .before .before .before .before .before .before .pre .0 .whole, c .before .before .before .before .before .before .before .before .before .before .before .before .before .before .turn .ensures .1 .0 .marks-long)
+choose-requires-2 c κs = (c .before .before .before .before .before .before .before .before .before .before .before .before .before .before .before .before .before .before .before .before .before .before .before .before .before .before .before .before .before .before .before .before .before .before .before .before .before .before .before .before .before .before .before .before .pre .0 .whole, omega (arith, c .before .before .before .before .before .before .before .before .before .before .before .before .before .before .turn .ensures .1 .0 .marks-long))
 
 loop-less : tie.Need-loop-less Inv-loop μ-loop
 loop-less c =

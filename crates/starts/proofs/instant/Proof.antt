@@ -6,6 +6,7 @@ use mathlib.Core.Path.{_≡_, sym, ap, _∙_, subst}
 use lib.ListN.{length-set}
 use Rattle.least.specs.Lists.{values}
 use Rattle.blocks.specs.Sheet.{nodeSlot, Looking}
+use Rattle.starts.specs.declared.Bounded.the-variants.{At}
 use borrow.Author.Needs.{needs}
 use native.Mathlib.Omega.{arith}
 use Rattle.starts.proofs.instant.Statement.{statement}
@@ -18,10 +19,10 @@ use Rattle.blocks.proofs.block_at.Reads as block-at-reads
 use Rattle.starts.proofs.start_at.Reads as start-at-reads
 
 abbrev Inv-loop : tie.InvT-loop
-Inv-loop e slots₀ steps best₀ m stride u at₀ p₀ slots best at p = Going e m u slots₀ best₀ slots best p × (at ≡ p * stride)
+Inv-loop e slots₀ steps best₀ m stride u bound₀ at₀ p₀ slots best bound at p = Going e m u slots₀ best₀ slots best bound p × (at ≡ p * stride)
 
 abbrev μ-loop : tie.MeasureT-loop
-μ-loop e slots₀ steps best₀ m stride u at₀ p₀ slots best at p = m - p
+μ-loop e slots₀ steps best₀ m stride u bound₀ at₀ p₀ slots best bound at p = m - p
 
 slice-write-slots : tie.Need-slice-write-slots Inv-loop μ-loop
 slice-write-slots c = search needs
@@ -98,7 +99,7 @@ returns c =
     let a = c .before .before .before .before .before .before .before .before .before .before .before .before .before .before .before in
     let l = c .before .before .before .before .before .before .before .before .before .before .loop in
     let s = c .before .before .before .before .start-at in
-    (λ W t g. going-past (a .args .e .now) (a .args .m) (a .args .u) _ _ (l .slots) (l .best) (l .p) (l .inv .0) (omega arith) (a .pre .0 .0 .looks) (s .result) (s .ensures .0) (c .enum-told .given .1) W t (first-set (a .args .e .now) (a .args .m) (a .args .u) (a .args .slots .now) W g), ((s .ensures .1 .1 .small, s .ensures .1 .1 .long ∙ l .inv .0 .long ∙ length-set (a .args .slots .now) 1 (a .args .u)), (l .inv .0 .low, l .inv .0 .behind)))
+    (record { found = λ W t g. going-past (a .args .e .now) (a .args .m) (a .args .u) _ _ (l .slots) (l .best) (l .bound) (l .p) (l .inv .0) (omega arith) (a .pre .0 .0 .looks) (s .result) (s .ensures .0) (c .enum-told .given .1) W t (first-set (a .args .e .now) (a .args .m) (a .args .u) (a .args .slots .now) W g); idle = λ z. absurd (omega arith) }, ((s .ensures .1 .1 .small, s .ensures .1 .1 .long ∙ l .inv .0 .long ∙ length-set (a .args .slots .now) 1 (a .args .u)), (l .inv .0 .low, l .inv .0 .behind)))
 
 add-slots : tie.Need-add-slots Inv-loop μ-loop
 add-slots c = search needs
@@ -128,7 +129,7 @@ add-less c =
     let a = c .before .before .before .before .before .before .before .before .before .before .before .before .before .before .before .before .before .before in
     let l = c .before .before .before .before .before .before .before .before .before .before .before .before .before .loop in
     let s = c .before .before .before .before .before .before .before .start-at in
-    omega (arith, a .pre .0 .1, a .pre .0 .0 .small (c .before .block-at .result + 1), begin-small (a .args .e .now) (a .args .m) (a .args .u) _ _ (l .slots) (l .best) (l .p) (l .inv .0) (omega arith) (a .pre .0 .0 .looks) (s .result) (s .ensures .0) (s .ensures .1 .0) _ (c .before .before .before .w .given .1))
+    omega (arith, a .pre .0 .1, a .pre .0 .0 .small (c .before .block-at .result + 1), begin-small (a .args .e .now) (a .args .m) (a .args .u) _ _ (l .slots) (l .best) (l .bound) (l .p) (l .inv .0) (omega arith) (a .pre .0 .0 .looks) (s .result) (s .ensures .0) (s .ensures .1 .0) _ (c .before .before .before .w .given .1))
 
 less-requires : tie.Need-less-requires Inv-loop μ-loop
 less-requires c κs = search needs
@@ -166,7 +167,7 @@ loop-again c =
     let l = c .before .before .before .before .before .before .before .before .before .before .before .before .before .before .before .before .loop in
     let s = c .before .before .before .before .before .before .before .before .before .before .start-at in
     let add = ap (λ x. values (a .args .e .now) (x + 1)) (c .before .before .before .before .block-at .ensures .0) in
-    (going-more (a .args .e .now) (a .args .m) (a .args .u) _ _ (l .slots) (l .best) (l .p) (l .inv .0) (omega (arith, c .before .before .before .before .before .before .before .before .before .before .before .before .before .before .before .loop-test .taken)) (a .pre .0 .0 .looks) (s .result) (s .ensures .0) (s .ensures .1 .0) _ (c .before .before .before .before .before .before .w .given .1) (s .last .1 .0) (s .ensures .1 .1) (c .greater .result) (omega arith) (a .pre .0 .1), omega (arith, l .inv .1))
+    (going-more (a .args .e .now) (a .args .m) (a .args .u) _ _ (l .slots) (l .best) (l .bound) (l .p) (l .inv .0) (omega (arith, c .before .before .before .before .before .before .before .before .before .before .before .before .before .before .before .loop-test .taken)) (a .pre .0 .0 .looks) (s .result) (s .ensures .0) (s .ensures .1 .0) _ (c .before .before .before .before .before .before .w .given .1) (s .last .1 .0) (s .ensures .1 .1) (c .before .before .less .result) (c .greater .result) (omega arith) (omega arith) (a .pre .0 .1), omega (arith, l .inv .1))
 
 same-length-3 : tie.Need-same-length-3 Inv-loop μ-loop
 same-length-3 c =
@@ -181,7 +182,7 @@ returns-2 : tie.Need-returns-2 Inv-loop μ-loop
 returns-2 c =
     let a = c .before .before .before .before .before .before in
     let l = c .before .loop in
-    (λ W s g. going-end (a .args .e .now) (a .args .m) (a .args .u) _ _ (l .slots) (l .best) (l .p) (l .inv .0) (omega arith) W s (first-set (a .args .e .now) (a .args .m) (a .args .u) (a .args .slots .now) W g), ((l .inv .0 .small, l .inv .0 .long ∙ length-set (a .args .slots .now) 1 (a .args .u)), (l .inv .0 .low, l .inv .0 .behind)))
+    (record { found = λ W s g. going-end (a .args .e .now) (a .args .m) (a .args .u) _ _ (l .slots) (l .best) (l .bound) (l .p) (l .inv .0) (omega arith) W s (first-set (a .args .e .now) (a .args .m) (a .args .u) (a .args .slots .now) W g); idle = λ z. ap At (l .inv .0 .idle (omega (arith, l .inv .0 .few))) }, ((l .inv .0 .small, l .inv .0 .long ∙ length-set (a .args .slots .now) 1 (a .args .u)), (l .inv .0 .low, l .inv .0 .behind)))
 
 pub instant-spec : {M : Type 1} → statement M
 instant-spec =

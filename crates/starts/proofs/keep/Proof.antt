@@ -13,23 +13,23 @@ use Rattle.least.proofs.lesser.Reads as lesser-reads
 use Rattle.steps.proofs.keep_node.Reads as keep-node-reads
 
 abbrev Inv-loop : tie.InvT-loop
-Inv-loop e steps₀ m stride u end next₀ at₀ p₀ steps next at p = (p ≤ m) × Noded e stride m end u steps₀ steps next at p × (0 < u → (j : ℕ) → p ≤ j → j < m → KeptAt e end (u - 1) steps j (j * stride))
+Inv-loop e steps₀ m stride from u end next₀ at₀ p₀ steps next at p = (p ≤ m) × Noded e stride m end u steps₀ steps next at p × (from < u → (j : ℕ) → p ≤ j → j < m → KeptAt e end (u - 1) steps j (j * stride))
 
 abbrev μ-loop : tie.MeasureT-loop
-μ-loop e steps₀ m stride u end next₀ at₀ p₀ steps next at p = m - p
+μ-loop e steps₀ m stride from u end next₀ at₀ p₀ steps next at p = m - p
 
 loop-holds : tie.Need-loop-holds Inv-loop μ-loop
 loop-holds c =
     let s = c .before .before in
     let a = s .args in
-    (omega arith, noded-none (a .e .now) (a .stride) (a .m) (a .end) (a .u) (a .steps .now) (s .pre .0 .3) (omega arith), λ later j h on. s .pre .1 later j on)
+    (omega arith, noded-none (a .e .now) (a .stride) (a .m) (a .end) (a .u) (a .steps .now) (s .pre .0 .4) (omega arith), λ later j h on. s .pre .1 later j on)
 
 keep-node-requires : tie.Need-keep-node-requires Inv-loop μ-loop
 keep-node-requires c κs =
     let s = c .before .before .before .before .before in
     let a = s .args in
     let l = c .before .before .loop in
-    ((shaped-less (omega arith) (s .pre .0 .0), omega arith, omega arith, strided-room (l .inv .1 .room) (l .inv .1 .place) (omega arith) .0, l .inv .1 .room .short), λ later. subst (KeptAt (a .e .now) (a .end) (a .u - 1) (l .steps) (l .p)) (sym (l .inv .1 .place)) (l .inv .2 later (l .p) (omega arith) (omega arith)))
+    ((shaped-less (omega arith) (s .pre .0 .0), s .pre .0 .1, omega arith, omega arith, strided-room (l .inv .1 .room) (l .inv .1 .place) (omega arith) .0, l .inv .1 .room .short), λ later. subst (KeptAt (a .e .now) (a .end) (a .u - 1) (l .steps) (l .p)) (sym (l .inv .1 .place)) (l .inv .2 later (l .p) (omega arith) (omega arith)))
 
 lesser-requires : tie.Need-lesser-requires Inv-loop μ-loop
 lesser-requires c κs = search needs

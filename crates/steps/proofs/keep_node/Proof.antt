@@ -16,7 +16,7 @@ returns c = search needs
 advance-node-requires : tie.Need-advance-node-requires
 advance-node-requires c κs =
     let s = c .before .before .before .before in
-    ((s .pre .0 .0, omega arith, s .pre .0 .1, s .pre .0 .2, s .pre .0 .3, s .pre .0 .4), s .pre .1 (omega arith))
+    ((s .pre .0 .0, omega arith, s .pre .0 .2, s .pre .0 .3, s .pre .0 .4, s .pre .0 .5), s .pre .1 (omega arith))
 
 same-length-2 : tie.Need-same-length-2
 same-length-2 c = search needs
