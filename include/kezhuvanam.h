@@ -4,12 +4,12 @@
    else, keeps nothing between calls, allocates nothing, and may be called from several threads. plan or report may be NULL if len is 0. Only
    kezhuvanam_report_write writes, and only into the buffer that it is handed.
 
-   Stack: a call takes 21 KiB of stack, whatever the plan. A thread with less dies. The calls on a report alone take at most 4 KiB.
+   Stack: a call takes 22 KiB of stack, whatever the plan. A thread with less dies. The calls on a report alone take at most 4 KiB.
 
    Time: a call on a report ends at once. A call on a plan ends on any plan, but how long it takes hangs on the plan's numbers and not on its
-   length, and nothing stops it before. This plan of 210 bytes takes about a minute: six flows of one priority, Lmin = Lmax = 1, J = 0, D = 65,535,
-   every cost 1 but the last flow's, which is 2; three flows with T 3, 3 and 4 on seven nodes in the orders 2 6 5 7 4 1 3, 6 1 5 2 7 3 4 and 7
-   5 2 3 1 6 4; three with T 13, 157 and 65,535 on node 1 alone. So who must stay responsive calls on a thread of its own. */
+   length, and nothing stops it before. Most take microseconds or milliseconds. The slowest that a search found (docs/PERFORMANCE.md) take a large
+   part of a second: ten to sixteen flows that cross at the same nodes in many orders and load one to nearly 1. So who must stay responsive calls on
+   a thread of its own. */
 #ifndef KEZHUVANAM_H
 #define KEZHUVANAM_H
 

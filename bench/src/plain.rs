@@ -1,4 +1,4 @@
-//! The library's algorithm in plain Rust: read and test a plan, prepare once, settle flow by flow, with looks near a flow's peak before it is scanned over
+//! The library's algorithm in plain Rust: read and test a plan, prepare once, settle flow by flow, with looks near a flow's peaks before it is scanned over
 //! its busy length, at the instants at which a count steps up. For comparison every turn can be a full scan, or every tick be tried.
 
 pub const HORIZON: u64 = 65535;
@@ -8,7 +8,7 @@ const SLOTS: usize = 16;
 const HERE: usize = 8;
 const INSTANT: usize = 9;
 
-/// What a turn tries: the steps near the flow's peak before all steps, all steps, or every tick.
+/// What a turn tries: the steps near the flow's peaks before all steps, all steps, or every tick.
 #[derive(Clone, Copy, PartialEq)]
 pub enum Walk {
     Near,
@@ -19,7 +19,7 @@ pub enum Walk {
 /// The turns of a flow once something that it reads has risen; a mark is the number left.
 const FRESH: u64 = 4;
 
-/// A scan with no more steps is as short as a look near a peak.
+/// A scan with no more steps is as short as a look near some peaks.
 const FEW: u64 = 64;
 
 #[derive(Clone, Copy, Default)]
@@ -34,19 +34,22 @@ pub struct Flow {
     pub costs: [u64; NODES],
 }
 
+#[derive(Clone)]
 pub struct Set {
     pub lmin: u64,
     pub lmax: u64,
     pub flows: Vec<Flow>,
 }
 
-/// What was done: instants tried, evaluations of a sum, full scans, turns near a peak.
+/// What was done: instants tried, evaluations of a sum, full scans, turns near the peaks.
 #[derive(Default)]
 pub struct Counts {
     pub instants: u64,
     pub sums: u64,
     pub scans: u64,
     pub looks: u64,
+    /// The sums after which settling is given up.
+    pub most: Option<u64>,
 }
 
 impl Counts {
@@ -324,7 +327,7 @@ impl Prepared<'_> {
         pair.role == Role::Equal && (pair.first as usize) < self.set.flows[a].length
     }
 
-    /// How far to each side of its peak flow a is looked at, with that many turns left: so many steps, by the packets in its busy length.
+    /// How far to each side of its peaks flow a is looked at, with that many turns left: so many steps, by the packets in its busy length.
     fn reach(&self, a: usize, turns: u64) -> u64 {
         let busy = self.facts[a].busy;
         if turns <= 1 {
@@ -385,27 +388,27 @@ impl Block {
     }
 }
 
-/// The bounds at every node of every flow.
-type Replies = [u64; FLOWS * NODES];
+/// The bounds of every flow.
+type Held = [Best; FLOWS];
 
 impl Prepared<'_> {
     /// S of flow b at a place of its path.
-    fn arrival(&self, replies: &Replies, b: usize, k: usize) -> u64 {
+    fn arrival(&self, held: &Held, b: usize, k: usize) -> u64 {
         match k {
             0 => 0,
-            k => self.set.lmax + replies[b * NODES + k - 1],
+            k => self.set.lmax + held[b].bounds[k - 1],
         }
     }
 
     /// The entries of flow b, if it is not lower, from the first place that it shares on.
-    fn write_flow(&self, sheet: &mut [Block], replies: &Replies, a: usize, b: usize) {
+    fn write_flow(&self, sheet: &mut [Block], held: &Held, a: usize, b: usize) {
         let (i, j, pair) = (&self.set.flows[a], &self.set.flows[b], &self.pairs[a][b]);
         let first = pair.first as usize;
         if pair.role == Role::Lower || first >= i.length {
             return;
         }
         let at = |k: usize| pair.places[k] as usize;
-        let plus = j.jitter + self.arrival(replies, b, at(first));
+        let plus = j.jitter + self.arrival(held, b, at(first));
         let way = self.facts[a].way[first];
         let (mut last, mut nearest, mut weight) = (first, first, 0);
         for (p, block) in sheet.iter_mut().enumerate().skip(first) {
@@ -430,7 +433,7 @@ impl Prepared<'_> {
                     if at(p) < at(nearest) {
                         nearest = p;
                     }
-                    entry.plus = plus + self.arrival(replies, a, nearest);
+                    entry.plus = plus + self.arrival(held, a, nearest);
                     entry.less = i.jitter + way + self.facts[b].smin[at(nearest)];
                 }
                 Role::Own | Role::Lower => {}
@@ -440,7 +443,7 @@ impl Prepared<'_> {
     }
 
     /// The sheet of flow a, with the bounds so far.
-    fn write(&self, sheet: &mut [Block], replies: &Replies, a: usize) {
+    fn write(&self, sheet: &mut [Block], held: &Held, a: usize) {
         let i = &self.set.flows[a];
         for (p, block) in sheet.iter_mut().enumerate() {
             block.base = self.facts[a].base[p];
@@ -448,7 +451,7 @@ impl Prepared<'_> {
             block.count = 0;
         }
         for b in 0..self.set.flows.len() {
-            self.write_flow(sheet, replies, a, b);
+            self.write_flow(sheet, held, a, b);
         }
     }
 }
@@ -550,18 +553,24 @@ impl Block {
     }
 }
 
-/// The bounds at each node, and the first instant at which the last node has its bound.
+/// The bounds at the nodes of a path, and where each was reached.
+#[derive(Clone, Copy, Default)]
+struct Best {
+    bounds: [u64; NODES],
+    peaks: [u64; NODES],
+}
+
+/// Raises the bounds to those over these instants, each with the first at which it is reached; none where one passes the horizon.
 fn responses(
     sheet: &[Block],
     instants: std::ops::Range<u64>,
+    best: &mut Best,
     walk: Walk,
     counts: &mut Counts,
-) -> Option<([u64; NODES], u64)> {
+) -> Option<()> {
     let (from, end) = (instants.start, instants.end);
     let mut v = [0u64; SLOTS];
-    let mut best = [0u64; NODES];
     let mut kept = [Kept::default(); NODES];
-    let (mut most, mut peak) = (0, from);
     let mut u = from;
     while u < end {
         counts.instants += 1;
@@ -575,37 +584,59 @@ fn responses(
             next = next.min(step);
         }
         v[INSTANT] = u;
-        let mut bound = 0;
         for (p, block) in sheet.iter().enumerate() {
             let w = block.start(&kept[p], &mut v, p, u, counts)?;
             v[p] = w;
-            bound = (w + block.added).saturating_sub(u);
-            best[p] = best[p].max(bound);
-        }
-        if most < bound {
-            (most, peak) = (bound, u);
+            let bound = (w + block.added).saturating_sub(u);
+            if best.bounds[p] < bound {
+                best.bounds[p] = bound;
+                best.peaks[p] = u;
+            }
         }
         u = match walk {
             Walk::Near | Walk::Steps => next,
             Walk::Ticks => u + 1,
         };
     }
-    Some((best, peak))
+    Some(())
 }
 
-/// Whether b, after c, is more urgent, or as urgent and before it in the round that begins after the last.
-fn comes_before(set: &Set, last: usize, c: usize, b: usize) -> bool {
-    let (old, new) = (set.flows[c].priority, set.flows[b].priority);
-    old < new || old == new && c <= last && last < b
+/// The bounds raised near each peak, from the last node's on, so far to each side; or over the busy length where that is no farther. A peak near the one
+/// that was looked at before it is passed over.
+fn look(
+    sheet: &[Block],
+    best: &mut Best,
+    far: u64,
+    busy: u64,
+    walk: Walk,
+    counts: &mut Counts,
+) -> Option<()> {
+    if busy <= far {
+        return responses(sheet, 0..busy, best, walk, counts);
+    }
+    let peaks = best.peaks;
+    let mut last = busy + far;
+    for &peak in peaks[..sheet.len()].iter().rev() {
+        if last.abs_diff(peak) >= far {
+            let near = peak.saturating_sub(far)..busy.min(peak + far);
+            responses(sheet, near, best, walk, counts)?;
+            last = peak;
+        }
+    }
+    Some(())
 }
 
-/// The flow with the most turns left, of several the most urgent, of several the next in the round.
+/// Whether b, after c, is more urgent, or as urgent with more turns left, or with as many before it in the round that begins after the last.
+fn comes_before(set: &Set, marks: &[u64], last: usize, c: usize, b: usize) -> bool {
+    let rank = |a: usize| (set.flows[a].priority, marks[a]);
+    rank(c) < rank(b) || rank(c) == rank(b) && c <= last && last < b
+}
+
+/// The next flow to have a turn, of those that have one left.
 fn choose(set: &Set, marks: &[u64], last: usize) -> Option<usize> {
-    let mut chosen: Option<usize> = None;
+    let mut chosen = None;
     for (b, &mark) in marks.iter().enumerate() {
-        let before =
-            |c: usize| marks[c] < mark || marks[c] == mark && comes_before(set, last, c, b);
-        if mark > 0 && chosen.is_none_or(before) {
+        if mark > 0 && chosen.is_none_or(|c| comes_before(set, marks, last, c, b)) {
             chosen = Some(b);
         }
     }
@@ -613,29 +644,27 @@ fn choose(set: &Set, marks: &[u64], last: usize) -> Option<usize> {
 }
 
 /// The settled bounds; none where one passes the horizon.
-fn settle(prepared: &Prepared, walk: Walk, counts: &mut Counts) -> Option<Replies> {
+fn settle(prepared: &Prepared, walk: Walk, counts: &mut Counts) -> Option<Held> {
     let set = prepared.set;
     let n = set.flows.len();
     let mut sheet = [Block::default(); NODES];
-    let mut replies = [0; FLOWS * NODES];
+    let mut held = [Best::default(); FLOWS];
     let mut marks = [1; FLOWS];
-    let mut peaks = [0; FLOWS];
     let fresh = if walk == Walk::Near { FRESH } else { 1 };
     let mut last = n;
     while let Some(a) = choose(set, &marks[..n], last) {
+        if counts.most.is_some_and(|most| most < counts.sums) {
+            return None;
+        }
         let m = set.flows[a].length;
         last = a;
-        prepared.write(&mut sheet[..m], &replies, a);
+        prepared.write(&mut sheet[..m], &held, a);
         let busy = prepared.facts[a].busy;
         let far = prepared.reach(a, marks[a]);
-        let peak: u64 = peaks[a];
-        let instants = peak.saturating_sub(far)..busy.min(peak + far);
-        let (best, peak) = responses(&sheet[..m], instants, walk, counts)?;
-        let mut rose = false;
-        for (reply, &bound) in replies[a * NODES..].iter_mut().zip(&best[..m]) {
-            rose |= *reply < bound;
-            *reply = bound.max(*reply);
-        }
+        let mut best = held[a];
+        look(&sheet[..m], &mut best, far, busy, walk, counts)?;
+        let rose = held[a].bounds != best.bounds;
+        held[a] = best;
         if far < busy {
             counts.looks += 1;
             marks[a] = if rose { FRESH } else { marks[a] - 1 };
@@ -644,7 +673,6 @@ fn settle(prepared: &Prepared, walk: Walk, counts: &mut Counts) -> Option<Replie
             marks[a] = 0;
         }
         if rose {
-            peaks[a] = peak;
             for (b, mark) in marks[..n].iter_mut().enumerate() {
                 if prepared.reads(b, a) {
                     *mark = fresh;
@@ -652,7 +680,7 @@ fn settle(prepared: &Prepared, walk: Walk, counts: &mut Counts) -> Option<Replie
             }
         }
     }
-    Some(replies)
+    Some(held)
 }
 
 pub fn prepare(set: &Set) -> Prepared<'_> {
@@ -704,11 +732,11 @@ pub fn judge(prepared: &Prepared, walk: Walk, counts: &mut Counts) -> Verdict {
     if let Some(a) = overload {
         return no_bounds(refused(8, &set.flows[a]));
     }
-    let Some(replies) = settle(prepared, walk, counts) else {
+    let Some(held) = settle(prepared, walk, counts) else {
         return no_bounds(9);
     };
     let bounds: Vec<u64> = (set.flows.iter().enumerate())
-        .map(|(a, f)| replies[a * NODES + f.length - 1])
+        .map(|(a, f)| held[a].bounds[f.length - 1])
         .collect();
     let late = (set.flows.iter().zip(&bounds)).find(|(f, &bound)| f.deadline < bound);
     Verdict {

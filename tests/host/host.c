@@ -1,4 +1,4 @@
-/* The host's functions on plans and reports whose answers docs/RULES.md gives, or the second program (bounds at late steps), called on a thread of
+/* The host's functions on plans and reports whose answers docs/RULES.md gives, or the second program (bounds at late steps, tight), called on a thread of
    KEZHUVANAM_STACK bytes. Every expected number is written out here by hand. tests/host/run --stack: how much stack a call takes on one byte, on
    these plans and on one with the longest paths and long busy lengths. */
 #define _POSIX_C_SOURCE 200809L
@@ -93,6 +93,14 @@ static plan steps_10 = {STEPS(1, 19)};
 static plan wide = {STEPS(1000, 20000)};
 static plan wide_10 = {STEPS(1000, 19999)};
 
+/* A busy length of 156 with as many packets: flows are looked at near a peak before all of it. */
+#define TIGHT(deadline)                                                                  \
+    LINKS(1, 1), FLOW(1, 0, 3, 0, deadline, 3), NODES(1, 2, 3), COSTS(1, 1, 1),          \
+        FLOW(2, 0, 3, 0, 60, 3), NODES(3, 2, 1), COSTS(1, 1, 1), FLOW(3, 0, 4, 0, 60, 3), \
+        NODES(2, 3, 1), COSTS(1, 1, 1), ALONE(4, 0, 13, 0, 60, 1), ALONE(5, 0, 157, 0, 60, 1), END
+static plan tight = {TIGHT(35)};
+static plan tight_10 = {TIGHT(34)};
+
 /* RULES, the report. A line is number, bound, jitter, busy length. */
 #define LINE(number, bound, jitter, busy) 0x11, number, TWO(bound), TWO(jitter), TWO(busy)
 #define CLOSE 0x1F
@@ -160,6 +168,8 @@ static const struct {
     {"late steps, D 19", WHOLE(steps_10), 10 + 256 * 1},
     {"late steps, wide", WHOLE(wide), 0},
     {"late steps, wide, D 19,999", WHOLE(wide_10), 10 + 256 * 1},
+    {"tight", WHOLE(tight), 0},
+    {"tight, D 34", WHOLE(tight_10), 10 + 256 * 1},
     {"Lmin > Lmax", WHOLE(delays_exchanged), 1},
     {"flow number 0", WHOLE(number_0), 2 + 65536 * 5},
     {"second flow's period 0", WHOLE(period_0), 3 + 65536 * 39},
@@ -207,6 +217,11 @@ static const struct {
     {"late steps", WHOLE(steps), 4, 23},
     {"late steps, wide", WHOLE(wide), 1, 20000},
     {"late steps, wide", WHOLE(wide), 4, 23000},
+    {"tight", WHOLE(tight), 1, 35},
+    {"tight", WHOLE(tight), 2, 35},
+    {"tight", WHOLE(tight), 3, 30},
+    {"tight", WHOLE(tight), 4, 15},
+    {"tight", WHOLE(tight), 5, 15},
 
     /* No such flow. Cut to eight bits, 257 would be flow 1; so would 2^32 + 1, cut to 32. */
     {"case 1", WHOLE(case1), 1, 0},

@@ -2,7 +2,7 @@
 use mathlib.Core.Path.{_≡_, refl, sym, ap, ap₂, _∙_, subst}
 use mathlib.Core.Bool.{Bool, true, false}
 use mathlib.Core.Logic.{inl, inr}
-use Rattle.settle.proofs.Steps.{member-place}
+use Rattle.ascent.proofs.Steps.{member-place}
 use mathlib.Core.List.{List, [], _∷_, _++_, map}
 use Prim.Native.Nat.{ℕ, zero, suc, _+_, _-_, _*_, _≤_, _<_}
 use native.Mathlib.Omega.{arith}
@@ -31,7 +31,7 @@ use Rattle.nets.specs.Nets.{countIn, roomIn, flowIn, netIn, noHop, noFlow, flow
 use Rattle.nets.proofs.Reading.{flows-length, flow-at}
 use Rattle.nets.proofs.Places.{member-at}
 use Rattle.drawing.proofs.Drawing.{at-place}
-use Rattle.settle.specs.Good.{arrivalsIn, Rests}
+use Rattle.ascent.specs.Good.{arrivalsIn, Rests}
 use Rattle.engine.specs.declared.Verdict.{Verdict}
 use Rattle.engine.specs.Verdicts.{noFigures, asFigures, causeOf, refused, given, verdictFrom, verdictOf, Meant}
 use Rattle.engine.specs.Firsts.{FiguresUpTo, deadlineAt, boundAt, DeadlinesIs}

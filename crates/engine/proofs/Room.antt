@@ -23,7 +23,7 @@ sizes n w h e = subst (λ v. (n * n * (v + 3) ≤ 2816) × (n * v * 3 ≤ 384) �
 
 pub room-enough : (net : List ℕ) → countIn net ≤ mostFlows → roomIn net ≡ mostNodes → Whole net →
     Whole net × (countIn net * countIn net * pairSize net ≤ 2816) × (countIn net * roomIn net * 3 ≤ 384) ×
-    Room net (replicate 16 0) (replicate 128 0) (replicate 32 0) (replicate 665 0) (replicate 10 0) (replicate 152 0) (replicate 8 0)
+    Room net (replicate 16 0) (replicate 128 0) (replicate 144 0) (replicate 665 0) (replicate 10 0) (replicate 152 0) (replicate 16 0)
 room-enough net few room whole =
     let s = sizes (countIn net) (roomIn net) few (sym room) in (
       whole,
@@ -32,7 +32,7 @@ room-enough net few room whole =
       record {
         busies-long = few;
         replies-long = s .2;
-        marks-long = omega arith;
+        marks-long = omega (arith, s .2);
         sheet-long = s .3;
         sheet-short = omega arith;
         sheet-small = λ k. omega (arith, zeros 665 k);

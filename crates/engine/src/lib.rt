@@ -21,7 +21,7 @@ ghost use Rattle.engine.specs.Verdicts.{noFigures, refused, verdictOf, M
 ghost use Rattle.engine.specs.Firsts.{hopAt, figureOf, FiguresUpTo, deadlineAt, boundAt, DeadlinesIs};
 
 // What a set of at most 16 flows with 8 nodes takes: as numbers, facts of each two flows, facts of each place, response bounds, marks and peaks, a sheet,
-// starting times, next steps.
+// starting times, next steps, bounds and peaks of one flow.
 const NET: usize = 356;
 
 const PAIRS: usize = 2816;
@@ -30,13 +30,15 @@ const WAYS: usize = 384;
 
 const PLACES: usize = 128;
 
-const MARKS: usize = 32;
+const MARKS: usize = 144;
 
 const SHEET: usize = 665;
 
 const SLOTS: usize = 10;
 
 const STEPS: usize = 152;
+
+const BEST: usize = 16;
 
 // Accepted with the figures of each flow in the row's order; or the refusal, and figures of 0.
 pub struct Verdict {
@@ -184,7 +186,7 @@ pub fn judge(row: Row, lmin: u16, lmax: u16) -> Verdict
     let mut sheet = [0u64; SHEET];
     let mut slots = [0u64; SLOTS];
     let mut steps = [0u64; STEPS];
-    let mut best = [0u64; NODES];
+    let mut best = [0u64; BEST];
     let found = findings::find(
         &net,
         &mut pairs,

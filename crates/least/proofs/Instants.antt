@@ -1,5 +1,5 @@
 -- Finitely many instants decide a maximum over all. Assumes nothing.
-use mathlib.Core.Path.{_≡_, refl, sym, ap, subst}
+use mathlib.Core.Path.{_≡_, refl, sym, ap, _∙_, subst}
 use mathlib.Core.Logic.{_⊎_, inl, inr}
 use Prim.Native.Nat.{ℕ, zero, suc, _+_, _-_, _≤_, _<_, max}
 use native.Mathlib.Omega.{arith}
@@ -97,46 +97,30 @@ module _ (a : ℕ) (φ : ℕ → ℕ) where
   best-none zero h = refl
   best-none (suc n) h = omega (arith, best-none n (omega arith), since-before n (omega arith))
 
-  -- an instant more, at which u is the peak or was before
-  module _ (n r u : ℕ) (peak : Peak φ a n r u) (on : a ≤ n) (best : r ≡ bestTo (since a φ) n) where
-    pub peak-new : (n′ r′ : ℕ) → r′ ≡ max r (φ n - n) → r < r′ → Peak φ a n′ r′ n
-    peak-new n′ r′ is h = record {
-      from = on;
-      earlier = λ t p q. omega (arith, best-above (since a φ) n t q, since-on t p);
-      reached = λ z. omega arith;
+  -- an instant more, which is the peak, or the one before stays
+  module _ (r₀ u₀ n r u : ℕ) (peak : Peak φ a r₀ u₀ r u) (on : a ≤ n) (best : r ≡ max r₀ (bestTo (since a φ) n)) where
+    pub peak-new : r < φ n - n → Peak φ a r₀ u₀ (φ n - n) n
+    peak-new h = record {
+      kept = λ e. absurd (omega arith);
+      first = λ g. (on, refl, λ t p q. omega (arith, best-above (since a φ) n t q, since-on t p));
     }
 
-    pub peak-kept : (n′ r′ : ℕ) → r′ ≡ max r (φ n - n) → r′ ≤ r → Peak φ a n′ r′ u
-    peak-kept n′ r′ is h = record {
-      from = peak .from;
-      earlier = λ t p q. omega (arith, peak .earlier t p q);
-      reached = λ z. elim (le-or-lt n a) [
-        | inl q ↦ first q
-        | inr q ↦ omega (arith, peak .reached q)
-      ];
-    }
-      where
-        first : n ≤ a → φ u - u ≡ r′
-        first q = elim (le-or-lt u n) [
-          | inl z ↦ (let same : u ≡ n = omega (arith, peak .from) in subst (λ t. φ t - t ≡ r′) (sym same) (omega (arith, best-none n q)))
-          | inr z ↦ absurd (omega (arith, peak .earlier n on z, best-none n q))
-        ]
+pub peak-none : (φ : ℕ → ℕ) (a r₀ u₀ : ℕ) → Peak φ a r₀ u₀ r₀ u₀
+peak-none φ a r₀ u₀ = record { kept = λ e. refl; first = λ h. absurd (omega arith) }
+
+pub peak-unique : {φ : ℕ → ℕ} {a r₀ u₀ r u v : ℕ} → r₀ ≤ r → Peak φ a r₀ u₀ r u → Peak φ a r₀ u₀ r v → u ≡ v
+peak-unique {φ} {a} {r₀} {u₀} {r} {u} {v} le p q = elim (le-or-lt r r₀) [
+  | inl h ↦ p .kept (omega arith) ∙ sym (q .kept (omega arith))
+  | inr h ↦ omega (arith, not-before (p .first h) (q .first h), not-before (q .first h) (p .first h))
+]
+  where
+    not-before : {u v : ℕ} → (a ≤ u) × (φ u - u ≡ r) × ((t : ℕ) → a ≤ t → t < u → φ t - t < r) →
+        (a ≤ v) × (φ v - v ≡ r) × ((t : ℕ) → a ≤ t → t < v → φ t - t < r) → u ≤ v
+    not-before {u} {v} p q = elim (le-or-lt u v) [
+      | inl h ↦ h
+      | inr h ↦ absurd (omega (arith, p .2 v (q .0) h, q .1))
+    ]
 
 -- from 0 on is all
 pub best-all : (φ : ℕ → ℕ) (n : ℕ) → bestTo (since 0 φ) n ≡ bestTo φ n
 best-all φ n = best-ext (since 0 φ) φ (λ t. since-on 0 φ t (omega arith)) n
-
-pub peak-none : (φ : ℕ → ℕ) (a : ℕ) → Peak φ a a 0 a
-peak-none φ a = record { from = le-refl a; earlier = λ t p q. absurd (omega arith); reached = λ z. absurd (omega arith) }
-
-pub peak-unique : {φ : ℕ → ℕ} {a n r u v : ℕ} → Peak φ a n r u → Peak φ a n r v → (n ≤ a → r ≡ 0) → u ≡ v
-peak-unique {φ} {a} {n} {r} {u} {v} p q none = omega (arith, not-before p q, not-before q p)
-  where
-    not-before : {u v : ℕ} → Peak φ a n r u → Peak φ a n r v → u ≤ v
-    not-before {u} {v} p q = elim (le-or-lt u v) [
-      | inl h ↦ h
-      | inr h ↦ absurd (elim (le-or-lt n a) [
-        | inl z ↦ omega (arith, none z, p .earlier v (q .from) h)
-        | inr z ↦ omega (arith, q .reached z, p .earlier v (q .from) h)
-      ])
-    ]

@@ -19,8 +19,7 @@ bestTo φ (suc n) = max (bestTo φ n) (φ n - n)
 unfoldable pub since : ℕ → (ℕ → ℕ) → ℕ → ℕ
 since a φ t = pick (ltb t a) 0 (φ t)
 
--- u is the first instant from a on at which φ t − t is r, the maximum over those below n; a, if there is none below n
-pub record Peak (φ : ℕ → ℕ) (a n r u : ℕ) : Type 0 where
-  pub from : a ≤ u
-  pub earlier : (t : ℕ) → a ≤ t → t < u → φ t - t < r
-  pub reached : a < n → φ u - u ≡ r
+-- r₀ was raised to the maximum of φ t − t over instants from a on: u is the first that reaches it, or u₀, if nothing is above r₀
+pub record Peak (φ : ℕ → ℕ) (a r₀ u₀ r u : ℕ) : Type 0 where
+  pub kept : r ≡ r₀ → u ≡ u₀
+  pub first : r₀ < r → (a ≤ u) × (φ u - u ≡ r) × ((t : ℕ) → a ≤ t → t < u → φ t - t < r)

@@ -1,7 +1,7 @@
 // Mathematics with no flow in it: definitions in specs/, laws in proofs/. The code is the greater, the lesser and the difference of two numbers, how
-// often one goes into another, a short number as a long one, and a lent slice filled with a number.
+// often one goes into another, a short number as a long one, and a lent slice filled with a number or with a part of another.
 ghost use mathlib.Core.Path.{_≡_};
-ghost use Prim.Native.Nat.{ℕ, _-_, _≤_, _<_, max, min};
+ghost use Prim.Native.Nat.{ℕ, _+_, _-_, _≤_, _<_, max, min};
 ghost use lib.ListN.{length};
 ghost use Rattle.least.specs.Count.{ceil};
 ghost use Rattle.least.specs.Lists.{values, Inside};
@@ -57,5 +57,18 @@ pub fn fill(l: &mut [u64], n: usize, x: u64)
     while k < n {
         l[k] = x;
         k += 1;
+    }
+}
+
+// n numbers of one slice copied into another, from a place of each on.
+pub fn copy(l: &[u64], at: usize, to: &mut [u64], place: usize, n: usize)
+    requires { ⌜ (at + n ≤ length (now l)) × (place + n ≤ length (now to)) × (at + n ≤ 16777216) × (place + n ≤ 16777216) ⌝ }
+    ensures { λ r. ⌜ ((k : ℕ) → k < n → values (now (to .exit)) (place + k) ≡ values (now (l .entry)) (at + k)) ⌝ }
+    ensures { λ r. ⌜ Inside place (place + n) (now (to .entry)) (now (to .exit)) ⌝ }
+{
+    let mut i: usize = 0;
+    while i < n {
+        to[place + i] = l[at + i];
+        i += 1;
     }
 }

@@ -162,6 +162,9 @@ module _ (marks : List ℕ) (n : ℕ) where
       none = λ h. below-more (λ k. values marks k ≡ 0) b (i .none h) z;
     }
 
+    pub chosen-still : c < n → ChosenIs marks n b c → ChosenIs marks n (b + 1) c
+    chosen-still h i = record { most = i .most; marked = i .marked; none = λ q k r. absurd (omega arith) }
+
 pub chosen-end : (marks : List ℕ) (n b c : ℕ) → ChosenIs marks n b c → n ≤ b → ChosenIs marks n n c
 chosen-end marks n b c i h = record { most = i .most; marked = i .marked; none = λ q k r. i .none q k (omega arith) }
 

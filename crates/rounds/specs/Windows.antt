@@ -21,7 +21,7 @@ stepsIn net a x = ceil x (fieldIn net a 2) + sumTo (countIn net) (stepsOf net a 
 abbrev pub fewSteps : ℕ
 fewSteps = 64
 
--- how many steps to each side of its peak a flow is looked at, with that many turns left
+-- how many steps to each side of its peaks a flow is looked at, with that many turns left
 abbrev pub nearSteps : ℕ → ℕ
 nearSteps turns = pick (eqb turns 2) 1024 (pick (eqb turns 3) 64 4)
 

@@ -10,10 +10,10 @@ ghost use Rattle.rounds.specs.Reading.{meetsEqual, readsFlow, readsOwn};
 ghost use Rattle.rounds.specs.Windows.{nearSteps, stepsOf, stepsIn, reachIn, TurnsLeft};
 ghost use Rattle.rounds.specs.Rounds.{freshMark, RaisedIs, MarkedIs, ChosenIs};
 
-// The turns of a flow once something that it reads has risen: some near its peak, wider ones, then a full scan. A mark is the number of turns left.
+// The turns of a flow once something that it reads has risen: one near its peaks, two wider ones, then a full scan. A mark is the number of turns left.
 pub const FRESH: u64 = 4;
 
-// A scan with no more steps is as short as a look near a peak.
+// A scan with no more steps is as short as a look near some peaks.
 const FEW: u64 = 64;
 
 fn above(a: u64, b: u64) -> u64
@@ -79,7 +79,7 @@ fn steps(net: &[u16], pairs: &[u8], a: usize, x: u64) -> u64
     sum
 }
 
-// How many steps to each side of its peak a flow is looked at, with that many turns left.
+// How many steps to each side of its peaks a flow is looked at, with that many turns left.
 fn near(turns: u64) -> u64
     ensures { λ r. ⌜ (r ≡ nearSteps turns) × (r ≤ 1024) ⌝ }
 {
@@ -92,7 +92,7 @@ fn near(turns: u64) -> u64
     4
 }
 
-// How many ticks to each side of its peak flow a is looked at, with that many turns left: as many as those steps take, or its whole busy length.
+// How many ticks to each side of its peaks flow a is looked at, with that many turns left: as many as those steps take, or its whole busy length.
 pub fn reach(net: &[u16], pairs: &[u8], a: usize, turns: u64, busy: u64) -> u64
     requires { ⌜ Noted (now net) (now pairs) a a × (busy ≤ 65536) ⌝ }
     ensures { λ r. ⌜ r ≡ reachIn (now (net .entry)) a turns busy ⌝ }
@@ -186,7 +186,7 @@ fn comes_next(last: usize, chosen: usize, b: usize) -> bool {
     last < b
 }
 
-// Flow b, if it is marked and has more turns left than the one chosen, or as many and is more urgent, or as urgent and next in the round; n stands for none.
+// Flow b, if it is marked and more urgent than the one chosen, or as urgent and has more turns left, or as many and is next in the round; n stands for none.
 fn prefer(net: &[u16], marks: &[u64], last: usize, chosen: usize, b: usize, n: usize) -> usize
     requires { ⌜ Whole (now net) × (n ≡ countIn (now net)) × (n ≤ length (now marks)) × (b < n) × (chosen ≤ n) ⌝ }
     ensures { λ r. ⌜ (ChosenIs (now (marks .entry)) n b chosen → ChosenIs (now (marks .entry)) n (b + 1) r) ⌝ }
@@ -198,12 +198,6 @@ fn prefer(net: &[u16], marks: &[u64], last: usize, chosen: usize, b: usize, n: u
     if n <= chosen {
         return b;
     }
-    if marks[chosen] < marks[b] {
-        return b;
-    }
-    if marks[b] < marks[chosen] {
-        return chosen;
-    }
     let old = nets::priority(net, chosen);
     let new = nets::priority(net, b);
     if old < new {
@@ -212,13 +206,19 @@ fn prefer(net: &[u16], marks: &[u64], last: usize, chosen: usize, b: usize, n: u
     if new < old {
         return chosen;
     }
+    if marks[chosen] < marks[b] {
+        return b;
+    }
+    if marks[b] < marks[chosen] {
+        return chosen;
+    }
     if comes_next(last, chosen, b) {
         return b;
     }
     chosen
 }
 
-// A marked flow of greatest mark, of these one of greatest priority, of several the next after last, so that each gets its turn; as many as there are if
+// A marked flow of greatest priority, of these one of greatest mark, of several the next after last, so that each gets its turn; as many as there are if
 // none is marked.
 pub fn choose(net: &[u16], marks: &[u64], last: usize) -> usize
     requires { ⌜ Whole (now net) × (countIn (now net) ≤ length (now marks)) ⌝ }

@@ -17,7 +17,7 @@ use Rattle.nets.specs.Nets.{countIn, roomIn, lengthIn, netIn, flowAt, nodeAt}
 use Rattle.nets.proofs.Reading.{flows-length}
 use Rattle.nets.proofs.Places.{visits-at}
 use Rattle.nets.proofs.Sets.{flow-here}
-use Rattle.settle.specs.Good.{arrivalsIn, held, due, Rests}
+use Rattle.ascent.specs.Good.{arrivalsIn, held, due, Rests}
 use Rattle.settle.specs.Turns.{BusiesAre, SettleIs}
 use Rattle.settle.proofs.Work.{path-long}
 

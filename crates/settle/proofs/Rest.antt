@@ -15,10 +15,10 @@ use Rattle.rules.specs.Valid.{Valid}
 use Rattle.rules.specs.Ready.{Ready}
 use Rattle.nets.specs.Nets.{countIn, roomIn, netIn}
 use Rattle.nets.proofs.Reading.{flows-length}
-use Rattle.settle.specs.Good.{Good}
+use Rattle.ascent.specs.Good.{Good}
 use Rattle.rounds.specs.Rounds.{ChosenIs}
 use Rattle.settle.specs.Turns.{Fair, BusiesAre, Keeps, TurnIs, SettleIs}
-use Rattle.settle.proofs.Steps.{good-start, good-end}
+use Rattle.ascent.proofs.Steps.{good-start, good-end}
 
 -- each number of l was set to x
 module _ (l l′ : List ℕ) (x : ℕ) (set : (k : ℕ) → k < length l → values l′ k ≡ x) (long : length l′ ≡ length l) where

@@ -11,7 +11,8 @@ use lib.ListN.{length, set}
 use lib.Seq.{getD-set-same, getD-set-other, ext-getD}
 use borrow.Author.Tests.{eqb-true, eqb-false}
 use Rattle.least.specs.Fold.{sumTo}
-use Rattle.least.specs.Lists.{values}
+use Rattle.least.specs.Instants.{bestTo}
+use Rattle.least.specs.Lists.{values, Inside}
 use Rattle.least.proofs.Count.{le-or-lt}
 use Rattle.least.proofs.Fold.{false-true, sum-to-lt, sum-to-bound}
 use Rattle.rules.specs.Net.{Flow, Net}
@@ -23,18 +24,16 @@ use Rattle.rules.specs.Ready.{Ready}
 use Rattle.nets.specs.Nets.{countIn, roomIn, lengthIn, netIn, flowAt}
 use Rattle.nets.proofs.Reading.{path-length, flows-length, flow-at}
 use Rattle.nets.proofs.Sets.{flow-here}
-use Rattle.starts.specs.Runs.{mostTime, ResponsesAre}
-use Rattle.starts.specs.declared.Bounded.{Bounded}
-use Rattle.starts.specs.declared.Bounded.the-variants.{At, Past}
+use Rattle.starts.specs.Runs.{mostTime, StartsOf, replyAt}
 use Rattle.sheets.specs.Sheets.{SheetIs}
-use Rattle.sheets.proofs.Whole.{responded, responded-below, responded-past}
+use Rattle.sheets.proofs.Whole.{times, starts, replies-below, replies-best, replies-past}
 use Rattle.rounds.specs.Reading.{readsFlow, Unread}
-use Rattle.settle.specs.Good.{held, due}
+use Rattle.ascent.specs.Good.{held, due, Good}
 use Rattle.rounds.specs.Rounds.{freshMark, RaisedIs, MarkedIs}
 use Rattle.rounds.specs.Windows.{TurnsLeft}
-use Rattle.settle.specs.Turns.{total, Fair, left, BusiesAre, TurnIs}
-use Rattle.settle.proofs.Reading.{unread-is}
-use Rattle.settle.proofs.Steps.{good-past, good-still, good-raised}
+use Rattle.settle.specs.Turns.{total, Fair, LookIs, BusiesAre, TurnIs}
+use Rattle.ascent.proofs.Reading.{unread-is}
+use Rattle.ascent.proofs.Steps.{good-past, good-still, good-raised}
 
 pub path-long : (net : List ℕ) (b : ℕ) → b < countIn net → length (flowAt (netIn net) b .path) ≡ lengthIn net b
 path-long net b h = ap (λ j. length (j .path)) (flow-at net b h) ∙ path-length net b
@@ -96,10 +95,11 @@ pub turned-set : {n : ℕ} (marks : List ℕ) (a t : ℕ) → a < length marks �
 turned-set marks a t h = record { own = getD-set-same marks a t 0 h; others = λ b on ne. getD-set-other marks a b t 0 ne }
 
 -- what stands behind the marks is none of them
-pub turned-behind : {n : ℕ} {marks marks′ : List ℕ} {a t : ℕ} (k v : ℕ) → a < n → n ≤ k → Turned n marks a t marks′ → Turned n marks a t (set marks′ k v)
-turned-behind {n} {marks} {marks′} {a} {t} k v on behind turned = record {
-  own = getD-set-other marks′ k a v 0 (λ e. omega arith) ∙ turned .own;
-  others = λ b h ne. getD-set-other marks′ k b v 0 (λ e. omega arith) ∙ turned .others b h ne;
+pub turned-behind : {n from to : ℕ} {marks marks′ marks″ : List ℕ} {a t : ℕ} → n ≤ from → Inside from to marks′ marks″ → a < n → Turned n marks a t marks′ →
+    Turned n marks a t marks″
+turned-behind {a} behind i on turned = record {
+  own = i .before a (omega arith) ∙ turned .own;
+  others = λ b h ne. i .before b (omega arith) ∙ turned .others b h ne;
 }
 
 module _ {n : ℕ} {marks marks′ : List ℕ} {a t : ℕ} (turned : Turned n marks a t marks′) where
@@ -120,17 +120,17 @@ module _ {n : ℕ} {marks marks′ : List ℕ} {a t : ℕ} (turned : Turned n ma
   turned-clear : (b : ℕ) → b < n → values marks′ b ≡ 0 → ((b ≡ a) × (t ≡ 0)) ⊎ (values marks b ≡ 0)
   turned-clear = by-flow (λ b v. v ≡ 0 → ((b ≡ a) × (t ≡ 0)) ⊎ (values marks b ≡ 0)) (λ z. inl (refl, z)) (λ b on z. inr z)
 
--- a run over the sheet of flow a from one instant to another: with its last turn, and wherever it looks as far, over all of its busy length
-pub record Ran (net busies replies marks : List ℕ) (a : ℕ) (sheet : List ℕ) (m from end far : ℕ) (out : Bounded) (best : List ℕ) : Type 0 where
+-- a look at the sheet of flow a, from the bounds so far: with its last turn over all of its busy length
+pub record Ran (net busies replies marks : List ℕ) (a : ℕ) (sheet : List ℕ) (m far : ℕ) (best₀ : List ℕ) (past : Bool) (best : List ℕ) : Type 0 where
   pub on : a < countIn net
   pub written : Valid (netIn net) → SheetIs (netIn net) (roomIn net) (values replies) a sheet
   pub long : m ≡ lengthIn net a
-  pub run : ResponsesAre sheet m from end out best
-  pub all : values busies a ≤ far → (from ≡ 0) × (end ≡ values busies a)
+  pub held : (k : ℕ) → k < m → values best₀ k ≡ values replies (a * roomIn net + k)
+  pub look : LookIs sheet m far (values busies a) best₀ past best
   pub last : values marks a ≤ 1 → values busies a ≤ far
 
-module _ {net busies replies marks : List ℕ} {a : ℕ} {sheet : List ℕ} {m from end far : ℕ} {out : Bounded} {best : List ℕ}
-    (ran : Ran net busies replies marks a sheet m from end far out best) where
+module _ {net busies replies marks : List ℕ} {a : ℕ} {sheet : List ℕ} {m far : ℕ} {best₀ : List ℕ} {past : Bool} {best : List ℕ}
+    (ran : Ran net busies replies marks a sheet m far best₀ past best) where
   abbrev N : Net
   N = netIn net
 
@@ -147,31 +147,45 @@ module _ {net busies replies marks : List ℕ} {a : ℕ} {sheet : List ℕ} {m f
   short b = omega arith
 
   module _ (val : Valid N) (ready : (i : Flow) → Here N i → Ready N i) (busy : BusiesAre net busies) where
-    its-run : ResponsesAre sheet (length (flowAt N a .path)) from end out best
-    its-run = subst (λ c. ResponsesAre sheet c from end out best) (ran .long ∙ sym (path-long net a (ran .on))) (ran .run)
+    its-busy : values busies a ≡ busyLength N (flowAt N a)
+    its-busy = busy a (ran .on) ∙ ap (busyLength N) (sym (flow-at net a (ran .on)))
+
+    its-look : LookIs sheet (length (flowAt N a .path)) far (values busies a) best₀ past best
+    its-look = subst (λ c. LookIs sheet c far (values busies a) best₀ past best) (ran .long ∙ sym (path-long net a (ran .on))) (ran .look)
 
     its-ready : Ready N (flowAt N a)
     its-ready = ready (flowAt N a) (flow-here N a (here a (ran .on)))
 
-    module _ (v : ℕ) (is : out ≡ At v) (k : ℕ) (h : k < length (flowAt N a .path)) where
+    its-starts : StartsOf sheet (length (flowAt N a .path)) (times N val w (values replies) a (here a (ran .on)) sheet (ran .written val))
+    its-starts = starts N val w (values replies) a (here a (ran .on)) sheet (ran .written val) its-ready
+
+    module _ (good : Good N w replies marks) (clear : past ≡ false) (k : ℕ) (h : k < length (flowAt N a .path)) where
       best-below : values best k ≤ due N w replies a k
-      best-below = responded-below N val w (values replies) a (here a (ran .on)) sheet (ran .written val) its-ready from end out best its-run v is k h
+      best-below =
+          its-look .below clear _ its-starts k h (due N w replies a k)
+          (replies-below N val w (values replies) a (here a (ran .on)) sheet (ran .written val) its-ready k h)
+          (omega (arith, ran .held k (omega (arith, ran .long, path-long net a (ran .on))), good .up a k (here a (ran .on)) h))
 
-      best-is : values busies a ≤ far → values best k ≡ due N w replies a k
-      best-is full =
-          responded N val w (values replies) a (here a (ran .on)) sheet (ran .written val) its-ready from end out best its-run v is k h
-          (ran .all full .0) (ran .all full .1 ∙ busy a (ran .on) ∙ ap (busyLength N) (sym (flow-at net a (ran .on))))
+      best-is : values busies a ≤ far → due N w replies a k ≤ values best k
+      best-is full = omega (
+        arith,
+        its-look .all clear full _ its-starts k h,
+        ap (bestTo (replyAt sheet (times N val w (values replies) a (here a (ran .on)) sheet (ran .written val)) k)) its-busy,
+        replies-best N val w (values replies) a (here a (ran .on)) sheet (ran .written val) its-ready k h,
+      )
 
-    past-is : out ≡ Past → (k : ℕ) × (k < length (flowAt N a .path)) × (horizon < due N w replies a k)
-    past-is e = responded-past N val w (values replies) a (here a (ran .on)) sheet (ran .written val) its-ready from end out best its-run e
+    past-is : past ≡ true → (k : ℕ) × (k < length (flowAt N a .path)) × (horizon < due N w replies a k)
+    past-is e =
+        let q = its-look .over e _ its-starts in
+        replies-past N val w (values replies) a (here a (ran .on)) sheet (ran .written val) its-ready (q .0) (q .1)
 
-  pub turn-past : out ≡ Past → TurnIs net busies replies marks a true replies marks
+  pub turn-past : past ≡ true → TurnIs net busies replies marks a true replies marks
   turn-past e = record {
     falls = λ f. false-true (sym f);
     keeps = λ val ready busy good. (let q = past-is val ready busy e in good-past N val ready w replies marks good a (q .0) (here a (ran .on)) (q .1) (q .2));
   }
 
-  module _ (v : ℕ) (clear : out ≡ At v) {at : ℕ} (first : at ≡ a * roomIn net) {replies′ : List ℕ} {rose : ℕ} (raised : RaisedIs replies best at m replies′ rose)
+  module _ (clear : past ≡ false) {at : ℕ} (first : at ≡ a * roomIn net) {replies′ : List ℕ} {rose : ℕ} (raised : RaisedIs replies best at m replies′ rose)
       {t : ℕ} (lowered : TurnsLeft (values marks a) rose far (values busies a) t) (fair : Fair net replies marks) where
     -- it has none only after a look over all
     none-full : t ≡ 0 → values busies a ≤ far
@@ -205,8 +219,8 @@ module _ {net busies replies marks : List ℕ} {a : ℕ} {sheet : List ℕ} {m f
                   c .0,
                   λ k on. omega (
                     arith,
-                    best-is val ready busy v clear k on (none-full (c .1)),
-                    raised .still z k (omega (arith, path-long net a (ran .on))),
+                    best-is val ready busy good clear k on (none-full (c .1)),
+                    raised .still z k (omega (arith, ran .long, path-long net a (ran .on))),
                     ap (λ c. values replies (c + k)) first,
                   ),
                 )
@@ -256,9 +270,9 @@ module _ {net busies replies marks : List ℕ} {a : ℕ} {sheet : List ℕ} {m f
               fewer-below _ _ (countIn net * freshMark) _ _ below (sum-to-bound (countIn net) (values marks′) freshMark flags);
           keeps = λ val ready busy good.
               good-raised N val ready w replies marks good a (here a (ran .on)) replies′
-              (λ k h. omega (arith, raised-at k h, best-below val ready busy v clear k h, good .up a k (here a (ran .on)) h))
+              (λ k h. omega (arith, raised-at k h, best-below val ready busy good clear k h, good .up a k (here a (ran .on)) h))
               (λ b k hb hk ne. unraised b k (omega (arith, path-long net b (there b hb), short b)) (λ e. absurd (ne e)))
-              marks′ (λ b h q. cleared val ready busy b (there b h) q (readsFlow net b a) refl);
+              marks′ (λ b h q. cleared val ready busy good b (there b h) q (readsFlow net b a) refl);
         }
           where
             size : ℕ
@@ -279,13 +293,13 @@ module _ {net busies replies marks : List ℕ} {a : ℕ} {sheet : List ℕ} {m f
               ap (λ c. values replies′ (c + k)) first,
             )
 
-            cleared : Valid N → ((i : Flow) → Here N i → Ready N i) → BusiesAre net busies → (b : ℕ) → b < countIn net → values marks′ b ≡ 0 →
+            cleared : Valid N → ((i : Flow) → Here N i → Ready N i) → BusiesAre net busies → Good N w replies marks → (b : ℕ) → b < countIn net → values marks′ b ≡ 0 →
                 (t : Bool) → readsFlow net b a ≡ t →
                 (((b ≡ a) × ((k : ℕ) → k < length (flowAt N a .path) → due N w replies a k ≤ held w replies′ a k)) ⊎ (values marks b ≡ 0)) × Unread N b a
-            cleared val ready busy b h q true e = absurd (omega (arith, marked .read b h e))
-            cleared val ready busy b h q false e = (
+            cleared val ready busy good b h q true e = absurd (omega (arith, marked .read b h e))
+            cleared val ready busy good b h q false e = (
               elim (turned-clear turned b h (sym (marked .unread b h e) ∙ q)) [
-                | inl c ↦ inl (c .0, λ k on. omega (arith, raised-at k on, best-is val ready busy v clear k on (none-full (c .1))))
+                | inl c ↦ inl (c .0, λ k on. omega (arith, raised-at k on, best-is val ready busy good clear k on (none-full (c .1))))
                 | inr c ↦ inr c
               ],
               unread-is net val b a h (ran .on) e,

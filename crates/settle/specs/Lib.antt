@@ -1,3 +1,2 @@
 -- The definitions of `settle`.
-pub mod Good
 pub mod Turns

@@ -1,19 +1,19 @@
 -- A whole sheet: its sums, starting times and response bounds are the rules'. Assumes nothing.
-use mathlib.Core.Path.{_≡_, sym, ap, ap₂, _∙_, subst}
+use mathlib.Core.Path.{_≡_, sym, ap, _∙_, subst}
 use mathlib.Core.Bool.{true}
 use mathlib.Core.List.{List}
 use Prim.Native.Nat.{ℕ, _+_, _-_, _*_, _≤_, _<_}
 use native.Mathlib.Omega.{arith}
-use native.Mathlib.Nat.{le-refl, le-trans}
+use native.Mathlib.Nat.{le-refl}
 use lib.ListN.{length, getD}
 use Rattle.least.specs.Fold.{sumTo, sumOf}
 use Rattle.least.specs.Lists.{values}
 use Rattle.least.specs.Fixed.{Least}
-use Rattle.least.specs.Instants.{bestTo, since}
+use Rattle.least.specs.Instants.{bestTo}
 use Rattle.least.proofs.Count.{count-after}
 use Rattle.least.proofs.Fold.{sum-to-ext, sum-to-list}
 use Rattle.least.proofs.Fixed.{least-ext}
-use Rattle.least.proofs.Instants.{best-ext, best-within, since-le, best-all}
+use Rattle.least.proofs.Instants.{best-ext}
 use Rattle.rules.specs.Net.{Flow, Net}
 use Rattle.rules.specs.Formula.{horizon, visits, prefix, before, costAt, slowest, ownWeight, Arrivals, term3, term4, term5, term6, sum, arrivals}
 use Rattle.rules.specs.Valid.{Valid}
@@ -27,9 +27,7 @@ use Rattle.nets.proofs.Places.{visits-at, position-node, prefix-at}
 use Rattle.nets.proofs.Sets.{flow-here}
 use Rattle.terms.specs.Terms.{baseOf}
 use Rattle.blocks.specs.Sheet.{entriesIn, entryAt, added, termOf, sheetSum, seen, sums}
-use Rattle.starts.specs.Runs.{StartsOf, replyAt, Maxima, ResponsesAre}
-use Rattle.starts.specs.declared.Bounded.{Bounded}
-use Rattle.starts.specs.declared.Bounded.the-variants.{At, Past}
+use Rattle.starts.specs.Runs.{StartsOf, replyAt, PastAt}
 use Rattle.frames.specs.Frames.{Entry, noEntry, EntryIs, Listed}
 use Rattle.entries.specs.Fields.{upTo, termBy, entriesTo, addedOf, responsesIn}
 use Rattle.sheets.specs.Sheets.{SheetIs}
@@ -107,46 +105,32 @@ module _ (N : Net) (val : Valid N) (w : ℕ) (r : ℕ → ℕ) (a : ℕ) (here :
           least-ext (λ s. same-sum s ∙ sym (sums-are u (λ q. start N i S u (nodeAt i q)) s))
           (meant-starts N i (ready .sound) S (start N i S) (start-is N i ready S) u h visited)
 
+  -- the rules' starting times, by place
+  abbrev pub times : ℕ → ℕ → ℕ
+  times u p = start N i S u (nodeAt i p)
+
   module _ (ready : Ready N i) where
-    pub starts : StartsOf e m (λ u p. start N i S u (nodeAt i p))
+    pub starts : StartsOf e m times
     starts u p on = start-at-p p on ready u
 
-    -- W + C − t at place p is at most the response bound, whatever the instant
-    replies-below : (p : ℕ) → p < m → (t : ℕ) → replyAt e (λ u p. start N i S u (nodeAt i p)) p t ≤ response N i S (nodeAt i p) + t
-    unfolding addedOf
-    replies-below p on t =
-        let g = response-is N i ready S (nodeAt i p) (visited p on) in
-        omega (
-          arith,
-          sheet .added p on,
-          g .greatest .above t,
-          start-unique N i (ready .sound) S (g .W) (start N i S) (g .start) (start-is N i ready S) t (nodeAt i p) (visited p on),
-        )
+    module _ (p : ℕ) (on : p < m) where
+      -- W + C − t is at most the response bound of the rules, whatever the instant
+      pub replies-below : (t : ℕ) → replyAt e times p t ≤ response N i S (nodeAt i p) + t
+      unfolding addedOf
+      replies-below t =
+          let g = response-is N i ready S (nodeAt i p) (visited p on) in
+          omega (
+            arith,
+            sheet .added p on,
+            g .greatest .above t,
+            start-unique N i (ready .sound) S (g .W) (start N i S) (g .start) (start-is N i ready S) t (nodeAt i p) (visited p on),
+          )
 
-    module _ (A B : ℕ) (out : Bounded) (best : List ℕ) (run : ResponsesAre e m A B out best) where
-      found : Maxima e m (λ u p. start N i S u (nodeAt i p)) A B out best
-      found = run .maxima (λ u p. start N i S u (nodeAt i p)) starts
+      -- and its maximum over a busy length is that
+      pub replies-best : bestTo (replyAt e times p) (busyLength N i) ≡ response N i S (nodeAt i p)
+      unfolding response addedOf
+      replies-best = best-ext _ _ (λ u. omega (arith, sheet .added p on)) (busyLength N i)
 
-      module _ (v : ℕ) (is : out ≡ At v) (p : ℕ) (on : p < m) where
-        best-is : values best p ≡ bestTo (since A (replyAt e (λ u p. start N i S u (nodeAt i p)) p)) B
-        best-is = subst (λ b. Maxima e m (λ u p. start N i S u (nodeAt i p)) A B b best) is found .0 p on
-
-        -- over some instants at most the response bound of the rules
-        pub responded-below : values best p ≤ response N i S (nodeAt i p)
-        responded-below =
-            let φ = replyAt e (λ u p. start N i S u (nodeAt i p)) p in
-            omega (arith, best-is, best-within (since A φ) (response N i S (nodeAt i p)) (λ t. le-trans (since-le A φ t) (replies-below p on t)) B)
-
-        -- over those of a busy length the response bound
-        pub responded : A ≡ 0 → B ≡ busyLength N i → values best p ≡ response N i S (nodeAt i p)
-        unfolding response addedOf
-        responded first last =
-            let φ = replyAt e (λ u p. start N i S u (nodeAt i p)) p in
-            best-is ∙ ap₂ (λ a b. bestTo (since a φ) b) first last ∙ best-all φ (busyLength N i)
-            ∙ best-ext _ _ (λ u. omega (arith, sheet .added p on)) (busyLength N i)
-
-      pub responded-past : out ≡ Past → (p : ℕ) × (p < m) × (horizon < response N i S (nodeAt i p))
-      unfolding horizon
-      responded-past is =
-          let q = subst (λ b. Maxima e m (λ u p. start N i S u (nodeAt i p)) A B b best) is found in
-          (q .3 .node, q .3 .on, omega (arith, q .3 .past, replies-below (q .3 .node) (q .3 .on) (q .0)))
+    pub replies-past : (u : ℕ) → PastAt e m times u → (p : ℕ) × (p < m) × (horizon < response N i S (nodeAt i p))
+    unfolding horizon
+    replies-past u q = (q .node, q .on, omega (arith, q .past, replies-below (q .node) (q .on) u))

@@ -16,7 +16,7 @@ use Rattle.least.proofs.Stores.{set-cases}
 use Rattle.blocks.specs.Sheet.{hereSlot, instantSlot, nodeSlot, added, sheetSum, seen, sums, Small, Fit}
 use Rattle.starts.specs.Runs.{mostTime}
 use Rattle.starts.specs.Begins.{BeginIs, Kept}
-use Rattle.starts.specs.declared.Bounded.the-variants.{At, Past}
+use Rattle.starts.specs.declared.Begin.the-variants.{At, Past}
 use Rattle.starts.proofs.Sums.{sheet-ext, sums-rising}
 use Rattle.starts.proofs.Nodes.{nodes}
 

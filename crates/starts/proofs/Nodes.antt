@@ -1,19 +1,22 @@
 -- One instant, node by node: a law for the start, a turn and each way out. Assumes nothing.
 use mathlib.Core.Path.{_≡_, refl, sym, _∙_, subst}
+use mathlib.Core.Bool.{Bool, true, false}
 use mathlib.Core.List.{List}
 use Prim.Native.Nat.{ℕ, _+_, _-_, _≤_, _<_, max}
 use native.Mathlib.Omega.{arith}
+use lib.Dec.{eqb}
 use lib.ListN.{length, set, length-set}
 use lib.Seq.{getD-set-same, getD-set-other}
 use borrow.Author.Count.{below-more}
+use borrow.Author.Tests.{eqb-true, eqb-false}
 use Rattle.least.specs.Lists.{values, Inside}
 use Rattle.least.proofs.Stores.{set-cases, inside-none, inside-more}
 use Rattle.least.specs.Fixed.{Under}
 use Rattle.blocks.specs.Sheet.{mostInstant, instantSlot, nodeSlot, added, sums, Small, Fit}
 use Rattle.starts.specs.Begins.{BeginIs, BeginFits, Kept}
-use Rattle.starts.specs.Runs.{mostTime, StartsOf, Behind, replyAt, LowTo, AtNode, PastAt, Found}
-use Rattle.starts.specs.declared.Bounded.{Bounded}
-use Rattle.starts.specs.declared.Bounded.the-variants.{At, Past}
+use Rattle.starts.specs.Runs.{mostTime, StartsOf, Behind, LowTo, AtNode, PastAt}
+use Rattle.starts.specs.declared.Begin.{Begin}
+use Rattle.starts.specs.declared.Begin.the-variants.{At, Past}
 use Rattle.starts.proofs.Sums.{sums-same, start-found, from-under}
 
 -- the starting times in the slots
@@ -21,27 +24,25 @@ abbrev pub nodes : List ℕ → ℕ → ℕ
 nodes slots q = values slots (nodeSlot q)
 
 -- what the nodes before p have found, and what is left as it was
-pub record Passed (e : List ℕ) (W : ℕ → ℕ → ℕ) (m u : ℕ) (best₀ slots best : List ℕ) (bound p : ℕ) : Type 0 where
-  pub found : (k : ℕ) → k < p → AtNode e W u best₀ slots best k
-  pub last : (k : ℕ) → p ≡ k + 1 → bound ≡ replyAt e W k u - u
+pub record Passed (e : List ℕ) (W : ℕ → ℕ → ℕ) (m u : ℕ) (best₀ slots best : List ℕ) (p : ℕ) : Type 0 where
+  pub found : (k : ℕ) → k < p → AtNode e m W u best₀ slots best k
   pub left : (k : ℕ) → p ≤ k → k < m → Under (sums e u k (W u)) (nodes slots k)
-  pub kept : (k : ℕ) → p ≤ k → values best k ≡ values best₀ k
+  pub kept : (k : ℕ) → p ≤ k → k < m → (values best k ≡ values best₀ k) × (values best (m + k) ≡ values best₀ (m + k))
 
-pub record Going (e : List ℕ) (m u : ℕ) (slots₀ best₀ slots best : List ℕ) (bound p : ℕ) : Type 0 where
+pub record Going (e : List ℕ) (m u : ℕ) (slots₀ best₀ slots best : List ℕ) (p : ℕ) : Type 0 where
   pub few : p ≤ m
   pub room : nodeSlot m ≤ length slots
   pub long : length slots ≡ length slots₀
-  pub wide : m ≤ length best
+  pub wide : m + m ≤ length best
   pub time : values slots instantSlot ≡ u
   pub small : Small slots
   pub low : LowTo m best
-  pub behind : Inside 0 m best₀ best
-  pub idle : p ≡ 0 → bound ≡ 0
-  pub passed : (W : ℕ → ℕ → ℕ) → StartsOf e m W → Behind e m W u slots₀ → Passed e W m u best₀ slots best bound p
+  pub behind : Inside 0 (m + m) best₀ best
+  pub passed : (W : ℕ → ℕ → ℕ) → StartsOf e m W → Behind e m W u slots₀ → Passed e W m u best₀ slots best p
 
 module _ (e : List ℕ) (m u : ℕ) where
-  pub going-start : (slots best : List ℕ) → nodeSlot m ≤ length slots → m ≤ length best → u ≤ mostInstant → Small slots → LowTo m best →
-      Going e m u (set slots instantSlot u) best (set slots instantSlot u) best 0 0
+  pub going-start : (slots best : List ℕ) → nodeSlot m ≤ length slots → m + m ≤ length best → u ≤ mostInstant → Small slots → LowTo m best →
+      Going e m u (set slots instantSlot u) best (set slots instantSlot u) best 0
   going-start slots best room wide short small low = record {
     few = omega arith;
     room = simp length-set room;
@@ -51,12 +52,10 @@ module _ (e : List ℕ) (m u : ℕ) where
     small = set-cases (λ j v. v < 16777216) slots instantSlot u (omega arith) (omega arith) (λ j h. small j);
     low = low;
     behind = inside-none;
-    idle = λ z. refl;
     passed = λ W starts first. record {
       found = λ k h. absurd (omega arith);
-      last = λ k h. absurd (omega arith);
       left = λ k h q. first k q;
-      kept = λ k h. refl;
+      kept = λ k h q. (refl, refl);
     };
   }
 
@@ -66,9 +65,8 @@ module _ (e : List ℕ) (m u : ℕ) where
       subst (Under (sums e u k (W u))) (sym (getD-set-other slots instantSlot (nodeSlot k) u 0 (λ z. omega arith))) (first k h)
 
   -- nor is that of the starting time sought
-  pub going-kept : (slots₀ best₀ slots slots′ best : List ℕ) (bound p : ℕ) → Kept slots slots′ → Going e m u slots₀ best₀ slots best bound p →
-      Going e m u slots₀ best₀ slots′ best bound p
-  going-kept slots₀ best₀ slots slots′ best bound p kept going = record {
+  pub going-kept : (slots₀ best₀ slots slots′ best : List ℕ) (p : ℕ) → Kept slots slots′ → Going e m u slots₀ best₀ slots best p → Going e m u slots₀ best₀ slots′ best p
+  going-kept slots₀ best₀ slots slots′ best p kept going = record {
     few = going .few;
     room = omega (arith, going .room, kept .long);
     long = kept .long ∙ going .long;
@@ -77,20 +75,20 @@ module _ (e : List ℕ) (m u : ℕ) where
     small = kept .small;
     low = going .low;
     behind = going .behind;
-    idle = going .idle;
     passed = λ W starts first. (let old = going .passed W starts first in record {
       found = λ k h. record {
         start = kept .others (nodeSlot k) (λ z. omega arith) ∙ old .found k h .start;
         greatest = old .found k h .greatest;
+        kept = old .found k h .kept;
+        peak = old .found k h .peak;
         within = old .found k h .within;
       };
-      last = old .last;
       left = λ k h q. subst (Under (sums e u k (W u))) (sym (kept .others (nodeSlot k) (λ z. omega arith))) (old .left k h q);
       kept = old .kept;
     });
   }
 
-  module _ (slots₀ best₀ slots best : List ℕ) (bound p : ℕ) (going : Going e m u slots₀ best₀ slots best bound p) (on : p < m) (fit : Fit e m) where
+  module _ (slots₀ best₀ slots best : List ℕ) (p : ℕ) (going : Going e m u slots₀ best₀ slots best p) (on : p < m) (fit : Fit e m) where
     -- the starting times so far, and the start from below at p
     module _ (W : ℕ → ℕ → ℕ) (starts : StartsOf e m W) (first : Behind e m W u slots₀) where
       earlier : (l : ℕ) → l < p → nodes slots l ≡ W u l
@@ -103,7 +101,7 @@ module _ (e : List ℕ) (m u : ℕ) where
       found-sum = omega (arith, sums-same e m fit u p on (nodes slots) (W u) earlier (W u p), starts u p on .fixed)
 
     -- what start_at gives at p
-    module _ (r : Bounded) (begin : Under (sums e u p (nodes slots)) (nodes slots p) → BeginIs e u p (nodes slots) r) where
+    module _ (r : Begin) (begin : Under (sums e u p (nodes slots)) (nodes slots p) → BeginIs e u p (nodes slots) r) where
       pub going-past : r ≡ Past → (W : ℕ → ℕ → ℕ) → StartsOf e m W → Behind e m W u slots₀ → PastAt e m W u
       going-past is W starts first =
           let past = subst (BeginIs e u p (nodes slots)) is (begin (under W starts first)) in
@@ -118,43 +116,65 @@ module _ (e : List ℕ) (m u : ℕ) where
             start-found e m fit W starts u p w on (nodes slots) (earlier W starts first)
             (subst (BeginIs e u p (nodes slots)) at (begin (under W starts first)))
 
-        module _ (slots′ : List ℕ) (kept : Kept slots slots′) (bound′ b : ℕ) (here-bound : bound′ ≡ w + added e p - u) (is : b ≡ max (values best p) bound′) (short : u ≤ mostInstant) where
-          now : Going e m u slots₀ best₀ slots′ best bound p
-          now = going-kept slots₀ best₀ slots slots′ best bound p kept going
+        module _ (slots′ : List ℕ) (kept : Kept slots slots′) (bound k b : ℕ) (reply : bound ≡ w + added e p - u) (is : b ≡ max (values best p) bound)
+            (where-it : (bound ≤ values best p → k ≡ values best (m + p)) × (values best p < bound → k ≡ u)) (short : u ≤ mostInstant) where
+          now : Going e m u slots₀ best₀ slots′ best p
+          now = going-kept slots₀ best₀ slots slots′ best p kept going
+
+          -- the peak and the bound written
+          abbrev best′ : List ℕ
+          best′ = set (set best (m + p) k) p b
+
+          stored : values best′ p ≡ b
+          stored = getD-set-same (set best (m + p) k) p b 0 (omega (arith, length-set best (m + p) k, going .wide))
+
+          peaked : values best′ (m + p) ≡ k
+          peaked = getD-set-other (set best (m + p) k) p (m + p) b 0 (λ z. omega arith) ∙ getD-set-same best (m + p) k 0 (omega (arith, going .wide))
+
+          other : (j : ℕ) → (j ≡ p → ⊥) → (j ≡ m + p → ⊥) → values best′ j ≡ values best j
+          other j h q = getD-set-other (set best (m + p) k) p j b 0 h ∙ getD-set-other best (m + p) j k 0 q
+
+          lows : (j : ℕ) → j < m → (t : Bool) → eqb j p ≡ t → values best′ j ≤ mostTime
+          lows j q true z = subst (λ i. values best′ i ≤ mostTime) (sym (eqb-true j p z)) (omega (arith, stored, begin-small, going .low p on))
+          lows j q false z = omega (arith, other j (eqb-false j p z) (λ y. omega arith), going .low j q)
 
           module _ (W : ℕ → ℕ → ℕ) (starts : StartsOf e m W) (first : Behind e m W u slots₀) where
-            old : Passed e W m u best₀ slots′ best bound p
+            old : Passed e W m u best₀ slots′ best p
             old = now .passed W starts first
 
-            here : AtNode e W u best₀ (set slots′ (nodeSlot p) w) (set best p b) p
-            here = record {
-              start = getD-set-same slots′ (nodeSlot p) w 0 (omega (arith, now .room)) ∙ start W starts first;
-              greatest = omega (
-                arith,
-                getD-set-same best p b 0 (omega (arith, going .wide)),
-                old .kept p (omega arith),
-                start W starts first,
-              );
-              within = omega (arith, begin-small, start W starts first);
+            here : AtNode e m W u best₀ (set slots′ (nodeSlot p) w) best′ p
+            here =
+                let was = old .kept p (omega arith) on in
+                let is-w = start W starts first in
+                record {
+                  start = getD-set-same slots′ (nodeSlot p) w 0 (omega (arith, now .room)) ∙ is-w;
+                  greatest = omega (arith, stored, was .0, is-w);
+                  kept = λ h. peaked ∙ where-it .0 (omega (arith, was .0, is-w)) ∙ was .1;
+                  peak = λ h. peaked ∙ where-it .1 (omega (arith, was .0, is-w));
+                  within = omega (arith, begin-small, is-w);
+                }
+
+            there : (j : ℕ) → j < p → AtNode e m W u best₀ (set slots′ (nodeSlot p) w) best′ j
+            there j h = record {
+              start = getD-set-other slots′ (nodeSlot p) (nodeSlot j) w 0 (λ z. omega arith) ∙ old .found j h .start;
+              greatest = other j (λ z. omega arith) (λ z. omega arith) ∙ old .found j h .greatest;
+              kept = λ q. other (m + j) (λ z. omega arith) (λ z. omega arith) ∙ old .found j h .kept q;
+              peak = λ q. other (m + j) (λ z. omega arith) (λ z. omega arith) ∙ old .found j h .peak q;
+              within = old .found j h .within;
             }
 
-            there : (k : ℕ) → k < p → AtNode e W u best₀ (set slots′ (nodeSlot p) w) (set best p b) k
-            there k h = record {
-              start = getD-set-other slots′ (nodeSlot p) (nodeSlot k) w 0 (λ z. omega arith) ∙ old .found k h .start;
-              greatest = getD-set-other best p k b 0 (λ z. omega arith) ∙ old .found k h .greatest;
-              within = old .found k h .within;
-            }
-
-            passed : Passed e W m u best₀ (set slots′ (nodeSlot p) w) (set best p b) bound′ (p + 1)
+            passed : Passed e W m u best₀ (set slots′ (nodeSlot p) w) best′ (p + 1)
             passed = record {
-              found = below-more (AtNode e W u best₀ (set slots′ (nodeSlot p) w) (set best p b)) p there here;
-              last = λ k h. (let q : p ≡ k = omega arith in subst (λ k. bound′ ≡ replyAt e W k u - u) q (omega (arith, start W starts first)));
-              left = λ k h q.
-                  subst (Under (sums e u k (W u))) (sym (getD-set-other slots′ (nodeSlot p) (nodeSlot k) w 0 (λ z. omega arith))) (old .left k (omega arith) q);
-              kept = λ k h. getD-set-other best p k b 0 (λ z. omega arith) ∙ old .kept k (omega arith);
+              found = below-more (AtNode e m W u best₀ (set slots′ (nodeSlot p) w) best′) p there here;
+              left = λ j h q.
+                  subst (Under (sums e u j (W u))) (sym (getD-set-other slots′ (nodeSlot p) (nodeSlot j) w 0 (λ z. omega arith))) (old .left j (omega arith) q);
+              kept = λ j h q. (
+                other j (λ z. omega arith) (λ z. omega arith) ∙ old .kept j (omega arith) q .0,
+                other (m + j) (λ z. omega arith) (λ z. omega arith) ∙ old .kept j (omega arith) q .1,
+              );
             }
 
-          pub going-more : Going e m u slots₀ best₀ (set slots′ (nodeSlot p) w) (set best p b) bound′ (p + 1)
+          pub going-more : Going e m u slots₀ best₀ (set slots′ (nodeSlot p) w) (set (set best (m + p) k) p b) (p + 1)
           going-more = record {
             few = omega arith;
             room = simp length-set (now .room);
@@ -162,14 +182,11 @@ module _ (e : List ℕ) (m u : ℕ) where
             wide = simp length-set (now .wide);
             time = getD-set-other slots′ (nodeSlot p) instantSlot w 0 (λ z. omega arith) ∙ now .time;
             small = set-cases (λ j v. v < 16777216) slots′ (nodeSlot p) w (omega (arith, now .room)) (omega (arith, begin-small)) (λ j h. now .small j);
-            low = λ j q. set-cases (λ j v. j < m → v ≤ mostTime) best p b (omega (arith, going .wide)) (λ h. omega (arith, begin-small, going .low p on)) (λ j d. going .low j) j q;
-            behind = inside-more p b (omega arith) on (going .behind);
-            idle = λ z. absurd (omega arith);
+            low = λ j q. lows j q (eqb j p) refl;
+            behind = inside-more p b (omega arith) (omega arith) (inside-more (m + p) k (omega arith) (omega arith) (going .behind));
             passed = passed;
           }
 
-  pub going-end : (slots₀ best₀ slots best : List ℕ) (bound p : ℕ) → Going e m u slots₀ best₀ slots best bound p → m ≤ p →
-      (W : ℕ → ℕ → ℕ) → StartsOf e m W → Behind e m W u slots₀ → Found e m W u best₀ (At bound) slots best
-  going-end slots₀ best₀ slots best bound p going h W starts first =
-      let passed = going .passed W starts first in
-      (λ k q. passed .found k (omega arith), λ k q. passed .last k (omega (arith, going .few)))
+  pub going-end : (slots₀ best₀ slots best : List ℕ) (p : ℕ) → Going e m u slots₀ best₀ slots best p → m ≤ p →
+      (W : ℕ → ℕ → ℕ) → StartsOf e m W → Behind e m W u slots₀ → (k : ℕ) → k < m → AtNode e m W u best₀ slots best k
+  going-end slots₀ best₀ slots best p going h W starts first k q = going .passed W starts first .found k (omega arith)

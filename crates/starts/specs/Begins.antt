@@ -7,16 +7,16 @@ use Rattle.least.specs.Lists.{values}
 use Rattle.least.specs.Fixed.{Least}
 use Rattle.blocks.specs.Sheet.{hereSlot, added, sums, Small}
 use Rattle.starts.specs.Runs.{mostTime}
-use Rattle.starts.specs.declared.Bounded.{Bounded}
-use Rattle.starts.specs.declared.Bounded.the-variants.{At, Past}
+use Rattle.starts.specs.declared.Begin.{Begin}
+use Rattle.starts.specs.declared.Begin.the-variants.{At, Past}
 
 -- the least w equal to its sum, or that each w which its sum does not exceed has a response bound W + C − t past the horizon
-abbrev pub BeginIs : List ℕ → ℕ → ℕ → (ℕ → ℕ) → Bounded → Type 0
+abbrev pub BeginIs : List ℕ → ℕ → ℕ → (ℕ → ℕ) → Begin → Type 0
 BeginIs e u p x (At w) = Least (sums e u p x) w
 BeginIs e u p x Past = (w : ℕ) → sums e u p x w ≤ w → mostTime + u < w + added e p
 
 -- a starting time that is given keeps its response bound within the horizon
-abbrev pub BeginFits : List ℕ → ℕ → ℕ → Bounded → Type 0
+abbrev pub BeginFits : List ℕ → ℕ → ℕ → Begin → Type 0
 BeginFits e u p (At w) = w + added e p ≤ mostTime + u
 BeginFits e u p Past = 0 ≤ u
 

@@ -17,14 +17,14 @@ ghost use Rattle.starts.specs.Kept.{Strided, KeptTo, SumsTo};
 // The horizon H.
 pub const HORIZON: u64 = 65535;
 
-// A number, or that a response bound passes the horizon.
-pub enum Bounded {
+// A starting time, or that its response bound passes the horizon.
+enum Begin {
     At(u64),
     Past,
 }
 
 // The starting time at node p and the instant u, upwards from a value that is not above it.
-fn start_at(e: &[u64], v: &mut [u64], p: usize, u: u64, kept: u64, looks: u64, from: u64) -> Bounded
+fn start_at(e: &[u64], v: &mut [u64], p: usize, u: u64, kept: u64, looks: u64, from: u64) -> Begin
     requires { ⌜ Shaped (now e) (p + 1) × Small (now v) × (nodeSlot p < length (now v)) × (values (now v) instantSlot ≡ u) × (u ≤ mostInstant) × (kept ≡ instantSum (now e) p u) × Looking (now e) p looks × (from < 16777216) ⌝ }
     ensures { λ r. ⌜ (Under (sums (now (e .entry)) u p (λ q. values (now (v .entry)) (nodeSlot q))) from → BeginIs (now (e .entry)) u p (λ q. values (now (v .entry)) (nodeSlot q)) r) ⌝ }
     ensures { λ r. ⌜ BeginFits (now (e .entry)) u p r ⌝ }
@@ -38,15 +38,25 @@ fn start_at(e: &[u64], v: &mut [u64], p: usize, u: u64, kept: u64, looks: u64, f
         v[HERE] = w;
         let sum = blocks::sum_at(e, v, p, kept, looks);
         if sum <= w {
-            return Bounded::At(w);
+            return Begin::At(w);
         }
         w = sum;
     }
-    Bounded::Past
+    Begin::Past
 }
 
-// The instant u at the first m nodes, from the kept sums, from starts below the starting times and from the bounds so far; the bound at the last node,
-// unless one passes the horizon.
+// The instant u if the bound there is above the most so far, otherwise the one that gave the most.
+fn peak_at(most: u64, peak: u64, bound: u64, u: u64) -> u64
+    ensures { λ r. ⌜ (bound ≤ most → r ≡ peak) × (most < bound → r ≡ u) ⌝ }
+{
+    if most < bound {
+        return u;
+    }
+    peak
+}
+
+// The instant u at the first m nodes, from the kept sums, from starts below the starting times, and from the bounds and the peaks so far; whether one
+// passes the horizon.
 fn instant(
     e: &[u64],
     slots: &mut [u64],
@@ -55,31 +65,31 @@ fn instant(
     m: usize,
     stride: usize,
     u: u64,
-) -> Bounded
-    requires { ⌜ Shaped (now e) m × (u ≤ mostInstant) × Small (now slots) × (nodeSlot m ≤ length (now slots)) × (m ≤ length (now best)) × LowTo m (now best) ⌝ }
+) -> bool
+    requires { ⌜ Shaped (now e) m × (u ≤ mostInstant) × Small (now slots) × (nodeSlot m ≤ length (now slots)) × (m + m ≤ length (now best)) × (m + m ≤ 16777216) × LowTo m (now best) ⌝ }
     requires { ⌜ Strided (now e) stride m (now steps) × SumsTo (now e) stride u (now steps) m ⌝ }
     ensures { λ r. ⌜ InstantIs (now (e .entry)) m u (now (slots .entry)) (now (best .entry)) r (now (slots .exit)) (now (best .exit)) ⌝ }
     ensures { λ r. ⌜ Small (now (slots .exit)) × (length (now (slots .exit)) ≡ length (now (slots .entry))) ⌝ }
-    ensures { λ r. ⌜ LowTo m (now (best .exit)) × Inside 0 m (now (best .entry)) (now (best .exit)) ⌝ }
+    ensures { λ r. ⌜ LowTo m (now (best .exit)) × Inside 0 (m + m) (now (best .entry)) (now (best .exit)) ⌝ }
 {
     slots[INSTANT] = u;
-    let mut bound: u64 = 0;
     let mut at: usize = 0;
     let mut p: usize = 0;
     while p < m {
         let from = slots[p + NODE];
-        let Bounded::At(w) = start_at(e, slots, p, u, steps[at], steps[at + 2], from) else {
-            return Bounded::Past;
+        let Begin::At(w) = start_at(e, slots, p, u, steps[at], steps[at + 2], from) else {
+            return true;
         };
         slots[p + NODE] = w;
         let add = e[blocks::block_at(e, p) + 1];
-        bound = least::less(w + add, u);
+        let bound = least::less(w + add, u);
         let so_far = best[p];
+        best[m + p] = peak_at(so_far, best[m + p], bound, u);
         best[p] = least::greater(so_far, bound);
         at += stride;
         p += 1;
     }
-    Bounded::At(bound)
+    false
 }
 
 // What is kept of the first m nodes, one behind the other. The first step of all is the next of the sheet: a starting time carries a step on to the
@@ -102,19 +112,9 @@ fn keep(e: &[u64], steps: &mut [u64], m: usize, stride: usize, from: u64, u: u64
     next
 }
 
-// The instant u if the bound there is above the most so far, otherwise the one that gave the most.
-fn peak_at(most: u64, at: u64, bound: u64, u: u64) -> u64
-    ensures { λ r. ⌜ (bound ≤ most → r ≡ at) × (most < bound → r ≡ u) ⌝ }
-{
-    if most < bound {
-        return u;
-    }
-    at
-}
-
-// The response bounds at the first m nodes, over every instant from the first on and below the end, and the first at which that of the last node is
-// reached; or that one passes the horizon, and then zeros. Tried are the first instant and those at which a sum steps up: between them no starting time
-// changes, and W + C − t falls. The slots and the steps are worked on.
+// The response bounds at the first m nodes, raised from those so far to the greatest over every instant from the first on and below the end, and behind
+// them the peaks, where each was reached first; whether one passes the horizon, and then zeros. Tried are the first instant and those at which a sum
+// steps up: between them no starting time changes, and W + C − t falls. The slots and the steps are worked on.
 pub fn responses(
     e: &[u64],
     slots: &mut [u64],
@@ -124,28 +124,23 @@ pub fn responses(
     stride: usize,
     from: u64,
     end: u64,
-) -> Bounded
-    requires { ⌜ Shaped (now e) m × (from ≤ end) × (end ≤ mostInstant) × Small (now slots) × (nodeSlot m ≤ length (now slots)) × (m ≤ length (now best)) ⌝ }
+) -> bool
+    requires { ⌜ Shaped (now e) m × (from ≤ end) × (end ≤ mostInstant) × Small (now slots) × (nodeSlot m ≤ length (now slots)) × (m + m ≤ length (now best)) × (m + m ≤ 16777216) × LowTo m (now best) ⌝ }
     requires { ⌜ Strided (now e) stride m (now steps) ⌝ }
-    ensures { λ r. ⌜ ResponsesAre (now (e .entry)) m from end r (now (best .exit)) ⌝ }
-    ensures { λ r. ⌜ Inside 0 m (now (best .entry)) (now (best .exit)) ⌝ }
+    ensures { λ r. ⌜ ResponsesAre (now (e .entry)) m from end (now (best .entry)) r (now (best .exit)) ⌝ }
+    ensures { λ r. ⌜ Inside 0 (m + m) (now (best .entry)) (now (best .exit)) ⌝ }
     ensures { λ r. ⌜ Small (now (slots .exit)) × (length (now (slots .exit)) ≡ length (now (slots .entry))) ⌝ }
     ensures { λ r. ⌜ length (now (steps .exit)) ≡ length (now (steps .entry)) ⌝ }
 {
     least::fill(slots, m + NODE, 0);
-    least::fill(best, m, 0);
-    let mut most: u64 = 0;
-    let mut peak = from;
     let mut u = from;
     while u < end {
         let next = keep(e, steps, m, stride, from, u, end);
-        let Bounded::At(bound) = instant(e, slots, steps, best, m, stride, u) else {
-            least::fill(best, m, 0);
-            return Bounded::Past;
-        };
-        peak = peak_at(most, peak, bound, u);
-        most = least::greater(most, bound);
+        if instant(e, slots, steps, best, m, stride, u) {
+            least::fill(best, m + m, 0);
+            return true;
+        }
         u = next;
     }
-    Bounded::At(peak)
+    false
 }

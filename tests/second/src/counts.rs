@@ -1,12 +1,14 @@
 //! Counts of the answers that a corpus or a sequence of calls leads to.
 
 use crate::calls::{self, Call, Kept};
+use crate::dense::dense;
 use crate::flow::{BODY, FLOWS};
 use crate::frames;
 use crate::plan;
 use crate::refusal::Refusal;
 use crate::report;
 use crate::report_ways::{self, WAYS};
+use crate::set::Set;
 use crate::table::Table;
 use std::collections::BTreeMap;
 use std::io;
@@ -57,8 +59,9 @@ fn name(number: i64, what: &str) -> String {
     }
 }
 
-/// Refusal numbers with the records they can be given at, and for 12 its ways.
-const PLACES: [(i64, &str); 35] = [
+/// Refusal numbers with the records they can be given at, and for 12 its ways;
+/// some again for dense sets.
+const PLACES: [(i64, &str); 38] = [
     (0, "accepted"),
     (1, "links"),
     (2, "first flow"),
@@ -75,6 +78,9 @@ const PLACES: [(i64, &str); 35] = [
     (8, "whole set"),
     (9, "whole set"),
     (10, "whole set"),
+    (0, "accepted, dense"),
+    (9, "whole set, dense"),
+    (10, "whole set, dense"),
     (12, "links, none left"),
     (12, "links, short body"),
     (12, "links, unknown kind"),
@@ -104,18 +110,24 @@ pub fn of_frames(input: &[u8]) -> Tally {
     };
     for bytes in frames::plans(input) {
         match Table::of_plan(bytes) {
-            Ok(_) => tally.add(0, "accepted"),
+            Ok(table) => tally.add(0, &set_class("accepted", table.set())),
             Err(refusal) => tally.add(refusal.number, &place_class(bytes, &refusal)),
         }
     }
     tally
 }
 
+fn set_class(what: &str, set: &Set) -> String {
+    let more = if dense(set) { ", dense" } else { "" };
+    format!("{what}{more}")
+}
+
 /// The record that a refusal's place points at, and for 12 its way. "Links" is
 /// the record at the start, whatever its kind.
 fn place_class(plan: &[u8], refusal: &Refusal) -> String {
     if (7..=10).contains(&refusal.number) {
-        return String::from("whole set");
+        let set = plan::read(plan).expect("a set that was judged");
+        return set_class("whole set", &set);
     }
     let place = refusal.place;
     if place > 0 && !(place - 5).is_multiple_of(1 + BODY) {

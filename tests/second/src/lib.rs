@@ -9,6 +9,7 @@ pub mod cases;
 pub mod counts;
 pub mod damage;
 pub mod deadlines;
+pub mod dense;
 pub mod dice;
 pub mod feedback;
 pub mod flow;

@@ -12,7 +12,7 @@ use crate::report_damage::{self, made_up, Harm};
 use crate::set::Set;
 use crate::sets::{self, Recipe, CHEAP};
 use crate::table::Table;
-use crate::verdict::Figures;
+use crate::verdict::{busy_lengths, Figures};
 
 /// The bytes so far and what the calls so far lead to.
 struct Stream {
@@ -28,6 +28,8 @@ struct Stream {
 enum Session {
     /// The flows of a set, with other calls between.
     Grow(Recipe),
+    /// The flows of a dense set, one of them twice.
+    Dense,
     /// Sixteen flows and more.
     Full,
     /// Flows out of range.
@@ -106,6 +108,7 @@ fn roster() -> Vec<Session> {
         .chain(others)
         .chain(harms)
         .chain(plans.map(Session::Plan))
+        .chain([Session::Dense; 8])
         .collect()
 }
 
@@ -114,7 +117,8 @@ impl Stream {
     fn any(&mut self) -> Session {
         match self.dice.pick(1, 100) {
             1..=3 => Session::Full,
-            4..=12 => Session::Fields,
+            4..=11 => Session::Fields,
+            12 => Session::Dense,
             13..=15 => Session::BadLinks,
             16 => Session::Overlong(self.dice.pick(1_200, 2_000) as usize),
             17 => Session::OverlongReport(self.dice.pick(132, 900) as usize),
@@ -138,14 +142,15 @@ impl Stream {
         match self.dice.pick(1, 100) {
             1..=3 => self.dice.one_of(&CHEAP),
             4 => Recipe::WideStep,
-            5..=18 => Recipe::Crowd,
-            19..=29 => Recipe::Back,
-            30..=42 => Recipe::Overload,
-            43..=55 => Recipe::Loose,
-            56..=64 => Recipe::LateBound,
-            65..=70 => Recipe::LateDrop,
-            71..=78 => Recipe::Jittery,
-            79..=88 => Recipe::LateStep,
+            5..=10 => Recipe::Dense,
+            11..=22 => Recipe::Crowd,
+            23..=31 => Recipe::Back,
+            32..=44 => Recipe::Overload,
+            45..=57 => Recipe::Loose,
+            58..=66 => Recipe::LateBound,
+            67..=72 => Recipe::LateDrop,
+            73..=80 => Recipe::Jittery,
+            81..=89 => Recipe::LateStep,
             _ => Recipe::Small,
         }
     }
@@ -153,6 +158,7 @@ impl Stream {
     fn run(&mut self, session: Session) {
         match session {
             Session::Grow(recipe) => self.grow(recipe),
+            Session::Dense => self.dense(),
             Session::Full => self.full(),
             Session::Fields => self.fields(),
             Session::BadLinks => self.bad_links(),
@@ -200,7 +206,7 @@ impl Stream {
         self.dice.shuffle(&mut set.flows);
         // Sets with more load than a node can carry are cheap only as a whole,
         // by refusal 8.
-        self.careful = recipe == Recipe::Overload;
+        self.careful = busy_lengths(&set).is_err();
         for flow in &set.flows {
             self.admit(flow);
             if self.dice.once_in(4) {
@@ -298,6 +304,25 @@ impl Stream {
     fn withdraw_any(&mut self) {
         let number = self.dice.pick(0, 255);
         self.call(Call::Withdraw(number));
+    }
+
+    /// With all of its flows the table is dense, unless one is refused; without
+    /// one of them mostly not.
+    fn dense(&mut self) {
+        let set = sets::make(Recipe::Dense, &mut self.dice);
+        self.call(Call::Fresh(set.links));
+        // As in `grow`.
+        self.careful = busy_lengths(&set).is_err();
+        for flow in &set.flows {
+            self.admit(flow);
+        }
+        self.call(Call::Print);
+        let k = self.dice.index(set.flows.len());
+        self.call(Call::Withdraw(set.flows[k].number));
+        self.call(Call::Print);
+        self.admit(&set.flows[k]);
+        self.call(Call::Print);
+        self.careful = false;
     }
 
     /// Sixteen light flows; a seventeenth, one with a number that is there, one
@@ -597,6 +622,7 @@ impl Stream {
 mod tests {
     use super::*;
     use crate::calls::each;
+    use crate::dense::dense;
     use std::collections::BTreeSet;
 
     #[test]
@@ -630,5 +656,23 @@ mod tests {
         for length in [0, 6, 40, longest, longest + 34, 65_535] {
             assert!(read.contains(&length), "{length}");
         }
+    }
+
+    /// Tables that admissions make, and sets that are judged.
+    #[test]
+    fn some_tables_and_sets_are_dense() {
+        let (mut admitted, mut judged) = (0, 0);
+        let whole = each(&make(5_000, 1), |call, answer, kept| {
+            match call {
+                Call::Admit(_) if answer == "admitted\n" => {
+                    admitted += i64::from(dense(kept.table.set()));
+                }
+                Call::Judge => judged += i64::from(dense(&kept.set)),
+                _ => {}
+            }
+            Ok(())
+        });
+        assert!(whole.unwrap());
+        assert!(admitted >= 10 && judged >= 2, "{admitted}, {judged}");
     }
 }

@@ -4,7 +4,7 @@ use crate::dice::Dice;
 use crate::flow::{Flow, Links, FLOWS, HORIZON, NODES, SMALL};
 use crate::set::Set;
 use crate::verdict::busy_lengths;
-use crate::{feedback, horizon, steps, tangles};
+use crate::{dense, feedback, horizon, steps, tangles};
 
 #[derive(Clone, Copy, Debug, PartialEq, Eq)]
 pub enum Recipe {
@@ -32,6 +32,8 @@ pub enum Recipe {
     Back,
     /// Bounds reached late, at a step of some count.
     LateStep,
+    /// Many packets of one priority in a busy length.
+    Dense,
     /// Periods and jitters up to the horizon, small costs.
     FarJitter,
     /// A bound close to the horizon, through jitter.
@@ -49,7 +51,7 @@ pub enum Recipe {
 }
 
 /// Those that cost little to judge.
-pub const CHEAP: [Recipe; 16] = [
+pub const CHEAP: [Recipe; 17] = [
     Recipe::Empty,
     Recipe::Small,
     Recipe::Crowd,
@@ -62,6 +64,7 @@ pub const CHEAP: [Recipe; 16] = [
     Recipe::Tangle,
     Recipe::Back,
     Recipe::LateStep,
+    Recipe::Dense,
     Recipe::FarJitter,
     Recipe::LateBound,
     Recipe::LateDrop,
@@ -87,6 +90,7 @@ pub fn make(recipe: Recipe, dice: &mut Dice) -> Set {
         Recipe::Tangle => tangles::make(dice),
         Recipe::Back => feedback::back(dice),
         Recipe::LateStep => steps::late(dice),
+        Recipe::Dense => dense::make(dice),
         Recipe::FarJitter => horizon::far_jitter(dice),
         Recipe::LateBound => horizon::late_bound(dice),
         Recipe::LateDrop => horizon::late_drop(dice),
@@ -332,7 +336,7 @@ fn shape_path(shape: Shape, nodes: i64, dice: &mut Dice) -> Vec<i64> {
 
 /// The work of one round: ticks times nodes times flows, over all flows. A set
 /// without busy lengths has no rounds.
-fn price(set: &Set) -> i64 {
+pub fn price(set: &Set) -> i64 {
     let Ok(busy) = busy_lengths(set) else {
         return 0;
     };

@@ -142,7 +142,7 @@ fn line(dice: &mut Dice) -> Set {
 }
 
 /// A piece of the line, of two nodes or more, mostly backwards.
-fn piece(line: &[i64], dice: &mut Dice) -> Vec<i64> {
+pub fn piece(line: &[i64], dice: &mut Dice) -> Vec<i64> {
     let length = dice.pick(2, line.len() as i64) as usize;
     let from = dice.index(line.len() + 1 - length);
     let mut path = line[from..from + length].to_vec();
@@ -153,7 +153,7 @@ fn piece(line: &[i64], dice: &mut Dice) -> Vec<i64> {
 }
 
 /// Nothing lies between the two: such a flow leaves no path and comes back.
-fn one_or_two(line: &[i64], dice: &mut Dice) -> Vec<i64> {
+pub fn one_or_two(line: &[i64], dice: &mut Dice) -> Vec<i64> {
     let mut path = line.to_vec();
     dice.shuffle(&mut path);
     path.truncate(dice.pick(1, 2) as usize);
@@ -198,7 +198,7 @@ pub fn wide(dice: &mut Dice) -> Set {
 }
 
 /// All times so many times as long, as far as the ranges go.
-fn stretch(set: &mut Set, times: i64) {
+pub fn stretch(set: &mut Set, times: i64) {
     let longer = |time: &mut i64, most: i64| *time = (*time * times).min(most);
     longer(&mut set.links.least, SMALL);
     longer(&mut set.links.most, SMALL);

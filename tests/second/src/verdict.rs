@@ -77,27 +77,31 @@ pub struct Rest {
 /// stay below every settled set: they come to rest at the least one, or a
 /// response bound passes the horizon and then it does so in every candidate.
 pub fn settle(set: &Set, busy: &[i64]) -> Rest {
+    settle_within(set, busy, usize::MAX).expect("no more rounds than that")
+}
+
+/// The same for making sets; None: that takes more rounds than `most`.
+pub fn settle_within(set: &Set, busy: &[i64], most: usize) -> Option<Rest> {
     let fronts: Vec<Vec<Front>> = (0..set.flows.len()).map(|i| fronts(set, i)).collect();
     let mut arrivals: Arrivals = set.flows.iter().map(|f| vec![0; f.path.len()]).collect();
-    let mut rounds = 0;
-    loop {
-        rounds += 1;
+    for rounds in 1..=most {
         let Some(bounds) = round(set, &fronts, busy, &arrivals) else {
-            return Rest {
+            return Some(Rest {
                 bounds: None,
                 rounds,
-            };
+            });
         };
         let next: Arrivals = bounds.iter().map(|b| arrivals_after(set, b)).collect();
         if next == arrivals {
             let last = bounds.iter().map(|b| b[b.len() - 1]).collect();
-            return Rest {
+            return Some(Rest {
                 bounds: Some(last),
                 rounds,
-            };
+            });
         }
         arrivals = next;
     }
+    None
 }
 
 /// Response bounds of all flows at all nodes, from the same arrival bounds.

@@ -9,7 +9,7 @@ use formula::{agree, figures, set, tells_apart, Reading};
 use second::dice::Dice;
 use second::set::Set;
 use second::sets::{self, Recipe};
-use second::verdict::judge_set;
+use second::verdict::{busy_lengths, judge_set, settle_within};
 use steps::bounds;
 
 /// The steps on every prefix, and those on the prefixes that a starting time
@@ -127,6 +127,29 @@ fn wide_steps_tell() {
             (Reading::LateSteps, 50),
         ],
     );
+}
+
+/// Not for those of many rounds: they may take many more if misread.
+#[test]
+fn dense_sets_tell() {
+    let mut judged = judged(Recipe::Dense, 26, 120);
+    judged.retain(|(set, _)| soon(set));
+    steps_are_enough_for(&judged);
+    tell(
+        &judged,
+        [
+            (Reading::DirectlyNamed, 3),
+            (Reading::ThisPrefix, 4),
+            (Reading::OwnSteps, 25),
+            (Reading::NoFirstStep, 4),
+            (Reading::LateSteps, 20),
+        ],
+    );
+}
+
+fn soon(set: &Set) -> bool {
+    let busy = busy_lengths(set).expect("a set with figures");
+    settle_within(set, &busy, 30).is_some()
 }
 
 /// Most of these are too long for the slow formula.

@@ -6,7 +6,6 @@ use mathlib.Core.Path.{_≡_, sym, ap, _∙_, subst}
 use lib.ListN.{length-set}
 use Rattle.least.specs.Lists.{values}
 use Rattle.blocks.specs.Sheet.{nodeSlot, Looking}
-use Rattle.starts.specs.declared.Bounded.the-variants.{At}
 use borrow.Author.Needs.{needs}
 use native.Mathlib.Omega.{arith}
 use Rattle.starts.proofs.instant.Statement.{statement}
@@ -19,10 +18,10 @@ use Rattle.blocks.proofs.block_at.Reads as block-at-reads
 use Rattle.starts.proofs.start_at.Reads as start-at-reads
 
 abbrev Inv-loop : tie.InvT-loop
-Inv-loop e slots₀ steps best₀ m stride u bound₀ at₀ p₀ slots best bound at p = Going e m u slots₀ best₀ slots best bound p × (at ≡ p * stride)
+Inv-loop e slots₀ steps best₀ m stride u at₀ p₀ slots best at p = Going e m u slots₀ best₀ slots best p × (at ≡ p * stride)
 
 abbrev μ-loop : tie.MeasureT-loop
-μ-loop e slots₀ steps best₀ m stride u bound₀ at₀ p₀ slots best bound at p = m - p
+μ-loop e slots₀ steps best₀ m stride u at₀ p₀ slots best at p = m - p
 
 slice-write-slots : tie.Need-slice-write-slots Inv-loop μ-loop
 slice-write-slots c = search needs
@@ -30,7 +29,7 @@ slice-write-slots c = search needs
 loop-holds : tie.Need-loop-holds Inv-loop μ-loop
 loop-holds c =
     let a = c .before .before .before .before in
-    (going-start (a .args .e .now) (a .args .m) (a .args .u) (a .args .slots .now) (a .args .best .now) (a .pre .0 .3) (a .pre .0 .4) (a .pre .0 .1) (a .pre .0 .2) (a .pre .0 .5), omega arith)
+    (going-start (a .args .e .now) (a .args .m) (a .args .u) (a .args .slots .now) (a .args .best .now) (a .pre .0 .3) (a .pre .0 .4) (a .pre .0 .1) (a .pre .0 .2) (a .pre .0 .6), omega arith)
 
 add-from : tie.Need-add-from Inv-loop μ-loop
 add-from c = search needs
@@ -92,14 +91,15 @@ same-length c =
     s .ensures .1 .1 .long ∙ l .inv .0 .long ∙ length-set (a .args .slots .now) 1 (a .args .u)
 
 same-length-2 : tie.Need-same-length-2 Inv-loop μ-loop
-same-length-2 c = c .before .before .before .before .before .before .before .before .before .before .loop .inv .0 .behind .long
+same-length-2 c =
+    c .before .before .before .before .before .before .before .before .before .before .loop .inv .0 .behind .long
 
 returns : tie.Need-returns Inv-loop μ-loop
 returns c =
     let a = c .before .before .before .before .before .before .before .before .before .before .before .before .before .before .before in
     let l = c .before .before .before .before .before .before .before .before .before .before .loop in
     let s = c .before .before .before .before .start-at in
-    (record { found = λ W t g. going-past (a .args .e .now) (a .args .m) (a .args .u) _ _ (l .slots) (l .best) (l .bound) (l .p) (l .inv .0) (omega arith) (a .pre .0 .0 .looks) (s .result) (s .ensures .0) (c .enum-told .given .1) W t (first-set (a .args .e .now) (a .args .m) (a .args .u) (a .args .slots .now) W g); idle = λ z. absurd (omega arith) }, ((s .ensures .1 .1 .small, s .ensures .1 .1 .long ∙ l .inv .0 .long ∙ length-set (a .args .slots .now) 1 (a .args .u)), (l .inv .0 .low, l .inv .0 .behind)))
+    (λ W t g. going-past (a .args .e .now) (a .args .m) (a .args .u) _ _ (l .slots) (l .best) (l .p) (l .inv .0) (omega arith) (a .pre .0 .0 .looks) (s .result) (s .ensures .0) (c .enum-told .given .1) W t (first-set (a .args .e .now) (a .args .m) (a .args .u) (a .args .slots .now) W g), ((s .ensures .1 .1 .small, s .ensures .1 .1 .long ∙ l .inv .0 .long ∙ length-set (a .args .slots .now) 1 (a .args .u)), (l .inv .0 .low, l .inv .0 .behind)))
 
 add-slots : tie.Need-add-slots Inv-loop μ-loop
 add-slots c = search needs
@@ -129,7 +129,7 @@ add-less c =
     let a = c .before .before .before .before .before .before .before .before .before .before .before .before .before .before .before .before .before .before in
     let l = c .before .before .before .before .before .before .before .before .before .before .before .before .before .loop in
     let s = c .before .before .before .before .before .before .before .start-at in
-    omega (arith, a .pre .0 .1, a .pre .0 .0 .small (c .before .block-at .result + 1), begin-small (a .args .e .now) (a .args .m) (a .args .u) _ _ (l .slots) (l .best) (l .bound) (l .p) (l .inv .0) (omega arith) (a .pre .0 .0 .looks) (s .result) (s .ensures .0) (s .ensures .1 .0) _ (c .before .before .before .w .given .1))
+    omega (arith, a .pre .0 .1, a .pre .0 .0 .small (c .before .block-at .result + 1), begin-small (a .args .e .now) (a .args .m) (a .args .u) _ _ (l .slots) (l .best) (l .p) (l .inv .0) (omega arith) (a .pre .0 .0 .looks) (s .result) (s .ensures .0) (s .ensures .1 .0) _ (c .before .before .before .w .given .1))
 
 less-requires : tie.Need-less-requires Inv-loop μ-loop
 less-requires c κs = search needs
@@ -140,8 +140,20 @@ mul-so-far c = search needs
 slice-read-so-far : tie.Need-slice-read-so-far Inv-loop μ-loop
 slice-read-so-far c = search needs
 
-greater-requires : tie.Need-greater-requires Inv-loop μ-loop
-greater-requires c κs = search needs
+add-peak-at : tie.Need-add-peak-at Inv-loop μ-loop
+add-peak-at c = search needs
+
+mul-peak-at : tie.Need-mul-peak-at Inv-loop μ-loop
+mul-peak-at c = search needs
+
+slice-read-peak-at : tie.Need-slice-read-peak-at Inv-loop μ-loop
+slice-read-peak-at c = search needs
+
+peak-at-requires : tie.Need-peak-at-requires Inv-loop μ-loop
+peak-at-requires c κs = search needs
+
+add-best : tie.Need-add-best Inv-loop μ-loop
+add-best c = search needs
 
 mul-best : tie.Need-mul-best Inv-loop μ-loop
 mul-best c = search needs
@@ -149,11 +161,22 @@ mul-best c = search needs
 slice-write-best : tie.Need-slice-write-best Inv-loop μ-loop
 slice-write-best c = search needs
 
+greater-requires : tie.Need-greater-requires Inv-loop μ-loop
+greater-requires c κs = search needs
+
+mul-best-2 : tie.Need-mul-best-2 Inv-loop μ-loop
+mul-best-2 c = search needs
+
+slice-write-best-2 : tie.Need-slice-write-best-2 Inv-loop μ-loop
+slice-write-best-2 c =
+    let l = c .before .before .before .before .before .before .before .before .before .before .before .before .before .before .before .before .before .before .loop in
+    omega (arith, l .inv .0 .wide, c .before .before .before .before .before .before .before .before .before .before .before .before .before .before .before .before .before .loop-test .taken, length-set (l .best) (c .before .before .before .before .before .before .before .before .before .before .before .before .before .before .before .before .before .before .before .before .before .before .before .args .m + l .p) (c .before .peak-at .result))
+
 add-at : tie.Need-add-at Inv-loop μ-loop
 add-at c =
-    let a = c .before .before .before .before .before .before .before .before .before .before .before .before .before .before .before .before .before .before .before .before .before in
-    let l = c .before .before .before .before .before .before .before .before .before .before .before .before .before .before .before .before .loop in
-    omega (arith, strided-room (a .pre .1 .0) (l .inv .1) (omega (arith, c .before .before .before .before .before .before .before .before .before .before .before .before .before .before .before .loop-test .taken)) .1, a .pre .1 .0 .short)
+    let a = c .before .before .before .before .before .before .before .before .before .before .before .before .before .before .before .before .before .before .before .before .before .before .before in
+    let l = c .before .before .before .before .before .before .before .before .before .before .before .before .before .before .before .before .before .before .loop in
+    omega (arith, strided-room (a .pre .1 .0) (l .inv .1) (omega (arith, c .before .before .before .before .before .before .before .before .before .before .before .before .before .before .before .before .before .loop-test .taken)) .1, a .pre .1 .0 .short)
 
 add-p : tie.Need-add-p Inv-loop μ-loop
 add-p c = search needs
@@ -163,11 +186,12 @@ loop-less c = search needs
 
 loop-again : tie.Need-loop-again Inv-loop μ-loop
 loop-again c =
-    let a = c .before .before .before .before .before .before .before .before .before .before .before .before .before .before .before .before .before .before .before .before .before in
-    let l = c .before .before .before .before .before .before .before .before .before .before .before .before .before .before .before .before .loop in
-    let s = c .before .before .before .before .before .before .before .before .before .before .start-at in
-    let add = ap (λ x. values (a .args .e .now) (x + 1)) (c .before .before .before .before .block-at .ensures .0) in
-    (going-more (a .args .e .now) (a .args .m) (a .args .u) _ _ (l .slots) (l .best) (l .bound) (l .p) (l .inv .0) (omega (arith, c .before .before .before .before .before .before .before .before .before .before .before .before .before .before .before .loop-test .taken)) (a .pre .0 .0 .looks) (s .result) (s .ensures .0) (s .ensures .1 .0) _ (c .before .before .before .before .before .before .w .given .1) (s .last .1 .0) (s .ensures .1 .1) (c .before .before .less .result) (c .greater .result) (omega arith) (omega arith) (a .pre .0 .1), omega (arith, l .inv .1))
+    let a = c .before .before .before .before .before .before .before .before .before .before .before .before .before .before .before .before .before .before .before .before .before .before .before in
+    let l = c .before .before .before .before .before .before .before .before .before .before .before .before .before .before .before .before .before .before .loop in
+    let s = c .before .before .before .before .before .before .before .before .before .before .before .before .start-at in
+    let add = ap (λ x. values (a .args .e .now) (x + 1)) (c .before .before .before .before .before .before .block-at .ensures .0) in
+    let k = c .before .peak-at in
+    (going-more (a .args .e .now) (a .args .m) (a .args .u) _ _ (l .slots) (l .best) (l .p) (l .inv .0) (omega (arith, c .before .before .before .before .before .before .before .before .before .before .before .before .before .before .before .before .before .loop-test .taken)) (a .pre .0 .0 .looks) (s .result) (s .ensures .0) (s .ensures .1 .0) _ (c .before .before .before .before .before .before .before .before .w .given .1) (s .last .1 .0) (s .ensures .1 .1) (c .before .before .before .before .less .result) (k .result) (c .greater .result) (omega arith) (c .greater .ensures) (k .ensures) (a .pre .0 .1), omega (arith, l .inv .1))
 
 same-length-3 : tie.Need-same-length-3 Inv-loop μ-loop
 same-length-3 c =
@@ -182,7 +206,7 @@ returns-2 : tie.Need-returns-2 Inv-loop μ-loop
 returns-2 c =
     let a = c .before .before .before .before .before .before in
     let l = c .before .loop in
-    (record { found = λ W s g. going-end (a .args .e .now) (a .args .m) (a .args .u) _ _ (l .slots) (l .best) (l .bound) (l .p) (l .inv .0) (omega arith) W s (first-set (a .args .e .now) (a .args .m) (a .args .u) (a .args .slots .now) W g); idle = λ z. ap At (l .inv .0 .idle (omega (arith, l .inv .0 .few))) }, ((l .inv .0 .small, l .inv .0 .long ∙ length-set (a .args .slots .now) 1 (a .args .u)), (l .inv .0 .low, l .inv .0 .behind)))
+    (λ W s g. going-end (a .args .e .now) (a .args .m) (a .args .u) _ _ (l .slots) (l .best) (l .p) (l .inv .0) (omega arith) W s (first-set (a .args .e .now) (a .args .m) (a .args .u) (a .args .slots .now) W g), ((l .inv .0 .small, l .inv .0 .long ∙ length-set (a .args .slots .now) 1 (a .args .u)), (l .inv .0 .low, l .inv .0 .behind)))
 
 pub instant-spec : {M : Type 1} → statement M
 instant-spec =
@@ -217,9 +241,16 @@ instant-spec =
     less-requires
     mul-so-far
     slice-read-so-far
-    greater-requires
+    add-peak-at
+    mul-peak-at
+    slice-read-peak-at
+    peak-at-requires
+    add-best
     mul-best
     slice-write-best
+    greater-requires
+    mul-best-2
+    slice-write-best-2
     add-at
     add-p
     loop-less

@@ -30,7 +30,7 @@ use Rattle.nets.proofs.Sets.{flow-here}
 use Rattle.entries.specs.Fields.{responsesIn}
 use Rattle.entries.proofs.Places.{place-at}
 use Rattle.rounds.specs.Reading.{Unread}
-use Rattle.settle.specs.Good.{arrivalsIn, held, due, Good, Rests}
+use Rattle.ascent.specs.Good.{arrivalsIn, held, due, Good, Rests}
 
 pub member-place : {A : Type 0} {x : A} {l : List A} (d : A) → List·Memᴰ x l → (k : ℕ) × (k < length l) × (getD l k d ≡ x)
 member-place d (List·Memᴰ·head e) = (0, omega arith, sym e)

@@ -1,13 +1,12 @@
 -- Response bounds on the way to the least settled ones.
 use mathlib.Core.Path.{_≡_}
-use mathlib.Core.Bool.{Bool, true, false}
 use mathlib.Core.List.{List}
 use Prim.Native.Nat.{ℕ, _+_, _*_, _≤_, _<_}
 use lib.ListN.{length}
 use Rattle.least.specs.Vector.{Underᵛ}
 use Rattle.rules.specs.Net.{Net}
 use Rattle.rules.specs.Formula.{Arrivals, arrivals}
-use Rattle.rules.specs.Meaning.{Settled, LeastSettled}
+use Rattle.rules.specs.Meaning.{LeastSettled}
 use Rattle.rules.specs.Judge.{response}
 use Rattle.rules.specs.Ready.{next}
 use Rattle.least.specs.Lists.{values}
@@ -31,11 +30,7 @@ pub record Good (N : Net) (w : ℕ) (replies marks : List ℕ) : Type 0 where
   pub under : Underᵛ (next N) (arrivalsIn N w replies)
   pub done : (b k : ℕ) → b < length (N .flows) → k < length (flowAt N b .path) → values marks b ≡ 0 → held w replies b k ≡ due N w replies b k
 
--- the end: there are no settled arrival bounds; or these are the least, and these the response bounds with them
+-- the end: these are the least settled ones, and these the response bounds with them
 pub record Rests (N : Net) (w : ℕ) (replies : List ℕ) : Type 0 where
   pub least : LeastSettled N (arrivalsIn N w replies)
   pub responses : (b k : ℕ) → b < length (N .flows) → k < length (flowAt N b .path) → held w replies b k ≡ due N w replies b k
-
-abbrev pub Outcome : Net → ℕ → Bool → List ℕ → Type 0
-Outcome N w true replies = (S : Arrivals) → Settled N S → ⊥
-Outcome N w false replies = Rests N w replies

@@ -1,0 +1,3 @@
+-- The laws of `ascent`.
+pub mod Reading
+pub mod Steps

@@ -1,0 +1,2 @@
+-- The definitions of `ascent`.
+pub mod Good
