@@ -200,6 +200,11 @@ fn tight(flows: usize) -> Vec<u8> {
     bytes(1, 1, &flows)
 }
 
+/// A plan that bench/search found.
+fn found(plan: &[u8]) -> Vec<u8> {
+    plan.to_vec()
+}
+
 /// A generator (xorshift) with a fixed seed.
 struct Chance(u64);
 
@@ -303,6 +308,20 @@ pub fn all() -> Vec<Group> {
         Group {
             beside: &[],
             ..single("six flows, tight", tight(6))
+        },
+        Group {
+            beside: &[],
+            ..single(
+                "thirteen, found by a search",
+                found(include_bytes!("../found/thirteen.plan")),
+            )
+        },
+        Group {
+            beside: &[],
+            ..single(
+                "sixteen, found by a search",
+                found(include_bytes!("../found/sixteen.plan")),
+            )
         },
     ]
 }
