@@ -333,12 +333,11 @@ impl Prepared<'_> {
         if turns <= 1 {
             return busy;
         }
-        let packets = |b: usize| busy.div_ceil(self.set.flows[b].period);
+        let packets = |b: usize| busy / self.set.flows[b].period;
         let steps: u64 = (0..self.set.flows.len())
-            .filter(|&b| self.meets_equal(a, b))
+            .filter(|&b| b == a || self.meets_equal(a, b))
             .map(packets)
             .sum();
-        let steps = packets(a) + steps;
         if steps <= FEW {
             return busy;
         }

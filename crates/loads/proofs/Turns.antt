@@ -3,15 +3,15 @@ use mathlib.Core.Path.{_≡_, sym, ap, ap₂, _∙_, subst}
 use mathlib.Core.Bool.{Bool, false}
 use mathlib.Core.Logic.{inl, inr}
 use mathlib.Core.List.{List}
-use Prim.Native.Nat.{ℕ, _+_, _-_, _*_, _/_, _≤_, _<_}
-use native.Mathlib.Nat.{div-zero, mul-le-mul, mul-le-mul-left}
+use Prim.Native.Nat.{ℕ, _+_, _-_, _*_, _≤_, _<_}
+use native.Mathlib.Nat.{mul-le-mul}
 use native.Mathlib.Omega.{arith}
 use lib.ListN.{length, set}
 use lib.Seq.{getD-set-same, getD-set-other}
 use borrow.Author.Tests.{le-leb, lt-leb}
 use Rattle.least.specs.Count.{pick, ceil}
 use Rattle.least.specs.Fold.{sumTo, maxTo}
-use Rattle.least.proofs.Count.{ceil-le, le-or-lt}
+use Rattle.least.proofs.Count.{le-or-lt}
 use Rattle.least.proofs.Ranges.{sum-to-more}
 use Rattle.rules.specs.Formula.{Role, Own, Higher, Equal, Lower, role, lower}
 use Rattle.rules.specs.Judge.{returns}

@@ -7,7 +7,7 @@ ghost use Rattle.nets.specs.Nets.{few, Whole, countIn, flowIn};
 ghost use Rattle.crossings.specs.Pairs.{Noted};
 ghost use Rattle.starts.specs.Runs.{Low, LowTo};
 ghost use Rattle.rounds.specs.Reading.{meetsEqual, readsFlow, readsOwn};
-ghost use Rattle.rounds.specs.Windows.{nearSteps, stepsOf, stepsIn, reachIn, TurnsLeft};
+ghost use Rattle.rounds.specs.Windows.{nearSteps, reachIn, TurnsLeft};
 ghost use Rattle.rounds.specs.Rounds.{freshMark, RaisedIs, MarkedIs, ChosenIs};
 
 // The turns of a flow once something that it reads has risen: one near its peaks, two wider ones, then a full scan. A mark is the number of turns left.
@@ -52,33 +52,6 @@ fn meets_equal(net: &[u16], pairs: &[u8], a: usize, b: usize) -> bool
     false
 }
 
-// The packets of flow b in x ticks, if it is one of a's priority that a meets.
-fn steps_of(net: &[u16], pairs: &[u8], a: usize, b: usize, x: u64) -> u64
-    requires { ⌜ Noted (now net) (now pairs) a b × (x ≤ 65536) ⌝ }
-    ensures { λ r. ⌜ r ≡ stepsOf (now (net .entry)) a x b ⌝ }
-    ensures { λ r. ⌜ r ≤ 65536 ⌝ }
-{
-    if meets_equal(net, pairs, a, b) {
-        return least::ceil(x, nets::period(net, b));
-    }
-    0
-}
-
-// About how many steps a scan of flow a over x ticks has.
-fn steps(net: &[u16], pairs: &[u8], a: usize, x: u64) -> u64
-    requires { ⌜ Noted (now net) (now pairs) a a × (x ≤ 65536) ⌝ }
-    ensures { λ r. ⌜ r ≡ stepsIn (now (net .entry)) a x ⌝ }
-{
-    let n = nets::count(net);
-    let mut sum = least::ceil(x, nets::period(net, a));
-    let mut b: usize = 0;
-    while b < n {
-        sum += steps_of(net, pairs, a, b, x);
-        b += 1;
-    }
-    sum
-}
-
 // How many steps to each side of its peaks a flow is looked at, with that many turns left.
 fn near(turns: u64) -> u64
     ensures { λ r. ⌜ (r ≡ nearSteps turns) × (r ≤ 1024) ⌝ }
@@ -92,16 +65,16 @@ fn near(turns: u64) -> u64
     4
 }
 
-// How many ticks to each side of its peaks flow a is looked at, with that many turns left: as many as those steps take, or its whole busy length.
-pub fn reach(net: &[u16], pairs: &[u8], a: usize, turns: u64, busy: u64) -> u64
-    requires { ⌜ Noted (now net) (now pairs) a a × (busy ≤ 65536) ⌝ }
-    ensures { λ r. ⌜ r ≡ reachIn (now (net .entry)) a turns busy ⌝ }
+// How many ticks to each side of its peaks a flow is looked at, with that many turns left, in a busy length with about so many steps: as many ticks as
+// those steps take, or the whole busy length.
+pub fn reach(turns: u64, steps: u64, busy: u64) -> u64
+    requires { ⌜ busy ≤ 65536 ⌝ }
+    ensures { λ r. ⌜ r ≡ reachIn turns steps busy ⌝ }
     ensures { λ r. ⌜ r ≤ 1024 * 65537 ⌝ }
 {
     if turns <= 1 {
         return busy;
     }
-    let steps = steps(net, pairs, a, busy);
     if steps <= FEW {
         return busy;
     }

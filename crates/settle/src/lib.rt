@@ -86,7 +86,7 @@ fn turn(
     least::copy(replies, at, best, 0, m);
     least::copy(marks, n + at, best, m, m);
     let busy = busies[a];
-    let far = rounds::reach(net, pairs, a, marks[a], busy);
+    let far = rounds::reach(marks[a], steps::count_steps(sheet, m, busy), busy);
     if look(
         sheet,
         slots,

@@ -7,7 +7,6 @@ use native.Mathlib.Omega.{arith}
 use native.Mathlib.Nat.{le-refl}
 use lib.ListN.{length, getD}
 use Rattle.least.specs.Fold.{sumTo, sumOf}
-use Rattle.least.specs.Lists.{values}
 use Rattle.least.specs.Fixed.{Least}
 use Rattle.least.specs.Instants.{bestTo}
 use Rattle.least.proofs.Count.{count-after}

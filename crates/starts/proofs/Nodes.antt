@@ -2,7 +2,7 @@
 use mathlib.Core.Path.{_≡_, refl, sym, _∙_, subst}
 use mathlib.Core.Bool.{Bool, true, false}
 use mathlib.Core.List.{List}
-use Prim.Native.Nat.{ℕ, _+_, _-_, _≤_, _<_, max}
+use Prim.Native.Nat.{ℕ, _+_, _-_, _≤_, _<_}
 use native.Mathlib.Omega.{arith}
 use lib.Dec.{eqb}
 use lib.ListN.{length, set, length-set}
@@ -10,11 +10,11 @@ use lib.Seq.{getD-set-same, getD-set-other}
 use borrow.Author.Count.{below-more}
 use borrow.Author.Tests.{eqb-true, eqb-false}
 use Rattle.least.specs.Lists.{values, Inside}
-use Rattle.least.proofs.Stores.{set-cases, inside-none, inside-more}
+use Rattle.least.proofs.Stores.{set-cases, inside-none}
 use Rattle.least.specs.Fixed.{Under}
 use Rattle.blocks.specs.Sheet.{mostInstant, instantSlot, nodeSlot, added, sums, Small, Fit}
 use Rattle.starts.specs.Begins.{BeginIs, BeginFits, Kept}
-use Rattle.starts.specs.Runs.{mostTime, StartsOf, Behind, LowTo, AtNode, PastAt}
+use Rattle.starts.specs.Runs.{mostTime, StartsOf, Behind, LowTo, RaisedAt, AtNode, PastAt}
 use Rattle.starts.specs.declared.Begin.{Begin}
 use Rattle.starts.specs.declared.Begin.the-variants.{At, Past}
 use Rattle.starts.proofs.Sums.{sums-same, start-found, from-under}
@@ -116,27 +116,14 @@ module _ (e : List ℕ) (m u : ℕ) where
             start-found e m fit W starts u p w on (nodes slots) (earlier W starts first)
             (subst (BeginIs e u p (nodes slots)) at (begin (under W starts first)))
 
-        module _ (slots′ : List ℕ) (kept : Kept slots slots′) (bound k b : ℕ) (reply : bound ≡ w + added e p - u) (is : b ≡ max (values best p) bound)
-            (where-it : (bound ≤ values best p → k ≡ values best (m + p)) × (values best p < bound → k ≡ u)) (short : u ≤ mostInstant) where
+        module _ (slots′ : List ℕ) (kept : Kept slots slots′) (bound : ℕ) (reply : bound ≡ w + added e p - u)
+            (best′ : List ℕ) (raised : RaisedAt m p bound u best best′) (short : u ≤ mostInstant) where
           now : Going e m u slots₀ best₀ slots′ best p
           now = going-kept slots₀ best₀ slots slots′ best p kept going
 
-          -- the peak and the bound written
-          abbrev best′ : List ℕ
-          best′ = set (set best (m + p) k) p b
-
-          stored : values best′ p ≡ b
-          stored = getD-set-same (set best (m + p) k) p b 0 (omega (arith, length-set best (m + p) k, going .wide))
-
-          peaked : values best′ (m + p) ≡ k
-          peaked = getD-set-other (set best (m + p) k) p (m + p) b 0 (λ z. omega arith) ∙ getD-set-same best (m + p) k 0 (omega (arith, going .wide))
-
-          other : (j : ℕ) → (j ≡ p → ⊥) → (j ≡ m + p → ⊥) → values best′ j ≡ values best j
-          other j h q = getD-set-other (set best (m + p) k) p j b 0 h ∙ getD-set-other best (m + p) j k 0 q
-
           lows : (j : ℕ) → j < m → (t : Bool) → eqb j p ≡ t → values best′ j ≤ mostTime
-          lows j q true z = subst (λ i. values best′ i ≤ mostTime) (sym (eqb-true j p z)) (omega (arith, stored, begin-small, going .low p on))
-          lows j q false z = omega (arith, other j (eqb-false j p z) (λ y. omega arith), going .low j q)
+          lows j q true z = subst (λ i. values best′ i ≤ mostTime) (sym (eqb-true j p z)) (omega (arith, raised .greatest, begin-small, going .low p on))
+          lows j q false z = omega (arith, raised .others j (eqb-false j p z) (λ y. omega arith), going .low j q)
 
           module _ (W : ℕ → ℕ → ℕ) (starts : StartsOf e m W) (first : Behind e m W u slots₀) where
             old : Passed e W m u best₀ slots′ best p
@@ -148,18 +135,18 @@ module _ (e : List ℕ) (m u : ℕ) where
                 let is-w = start W starts first in
                 record {
                   start = getD-set-same slots′ (nodeSlot p) w 0 (omega (arith, now .room)) ∙ is-w;
-                  greatest = omega (arith, stored, was .0, is-w);
-                  kept = λ h. peaked ∙ where-it .0 (omega (arith, was .0, is-w)) ∙ was .1;
-                  peak = λ h. peaked ∙ where-it .1 (omega (arith, was .0, is-w));
+                  greatest = omega (arith, raised .greatest, was .0, is-w);
+                  kept = λ h. raised .kept (omega (arith, was .0, is-w)) ∙ was .1;
+                  peak = λ h. raised .peak (omega (arith, was .0, is-w));
                   within = omega (arith, begin-small, is-w);
                 }
 
             there : (j : ℕ) → j < p → AtNode e m W u best₀ (set slots′ (nodeSlot p) w) best′ j
             there j h = record {
               start = getD-set-other slots′ (nodeSlot p) (nodeSlot j) w 0 (λ z. omega arith) ∙ old .found j h .start;
-              greatest = other j (λ z. omega arith) (λ z. omega arith) ∙ old .found j h .greatest;
-              kept = λ q. other (m + j) (λ z. omega arith) (λ z. omega arith) ∙ old .found j h .kept q;
-              peak = λ q. other (m + j) (λ z. omega arith) (λ z. omega arith) ∙ old .found j h .peak q;
+              greatest = raised .others j (λ z. omega arith) (λ z. omega arith) ∙ old .found j h .greatest;
+              kept = λ q. raised .others (m + j) (λ z. omega arith) (λ z. omega arith) ∙ old .found j h .kept q;
+              peak = λ q. raised .others (m + j) (λ z. omega arith) (λ z. omega arith) ∙ old .found j h .peak q;
               within = old .found j h .within;
             }
 
@@ -169,21 +156,25 @@ module _ (e : List ℕ) (m u : ℕ) where
               left = λ j h q.
                   subst (Under (sums e u j (W u))) (sym (getD-set-other slots′ (nodeSlot p) (nodeSlot j) w 0 (λ z. omega arith))) (old .left j (omega arith) q);
               kept = λ j h q. (
-                other j (λ z. omega arith) (λ z. omega arith) ∙ old .kept j (omega arith) q .0,
-                other (m + j) (λ z. omega arith) (λ z. omega arith) ∙ old .kept j (omega arith) q .1,
+                raised .others j (λ z. omega arith) (λ z. omega arith) ∙ old .kept j (omega arith) q .0,
+                raised .others (m + j) (λ z. omega arith) (λ z. omega arith) ∙ old .kept j (omega arith) q .1,
               );
             }
 
-          pub going-more : Going e m u slots₀ best₀ (set slots′ (nodeSlot p) w) (set (set best (m + p) k) p b) (p + 1)
+          pub going-more : Going e m u slots₀ best₀ (set slots′ (nodeSlot p) w) best′ (p + 1)
           going-more = record {
             few = omega arith;
             room = simp length-set (now .room);
             long = simp length-set (now .long);
-            wide = simp length-set (now .wide);
+            wide = omega (arith, now .wide, raised .long);
             time = getD-set-other slots′ (nodeSlot p) instantSlot w 0 (λ z. omega arith) ∙ now .time;
             small = set-cases (λ j v. v < 16777216) slots′ (nodeSlot p) w (omega (arith, now .room)) (omega (arith, begin-small)) (λ j h. now .small j);
             low = λ j q. lows j q (eqb j p) refl;
-            behind = inside-more p b (omega arith) (omega arith) (inside-more (m + p) k (omega arith) (omega arith) (going .behind));
+            behind = record {
+              before = λ k h. absurd (omega arith);
+              behind = λ k h. raised .others k (λ z. omega arith) (λ z. omega arith) ∙ going .behind .behind k h;
+              long = raised .long ∙ going .behind .long;
+            };
             passed = passed;
           }
 

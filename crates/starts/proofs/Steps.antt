@@ -1,5 +1,5 @@
 -- The next step of a sheet, node by node; and between two steps no sum changes, so no starting time does, and W + C − u falls. Assumes nothing.
-use mathlib.Core.Path.{_≡_, refl, ap, _∙_, subst}
+use mathlib.Core.Path.{_≡_, refl, subst}
 use mathlib.Core.Bool.{Bool, true, false}
 use mathlib.Core.Logic.{inl, inr}
 use mathlib.Core.List.{List}
@@ -15,7 +15,7 @@ use Rattle.least.proofs.Fold.{sum-to-lt, sum-to-ext}
 use Rattle.least.proofs.Fixed.{least-ext}
 use Rattle.least.proofs.Instants.{since-on}
 use Rattle.least.proofs.Steps.{step-none, step-first, step-more, best-still}
-use Rattle.blocks.specs.Sheet.{hereSlot, instantSlot, added, entriesIn, entryAt, termOf, lookTerm, instantSum, seen, sums, Fit}
+use Rattle.blocks.specs.Sheet.{hereSlot, instantSlot, entriesIn, entryAt, termOf, lookTerm, instantSum, seen, sums, Fit}
 use Rattle.steps.specs.Steps.{NodeStep}
 use Rattle.blocks.proofs.Looks.{sheet-split}
 use Rattle.steps.proofs.Steps.{sum-rises}

@@ -10,7 +10,7 @@ ghost use Rattle.least.specs.Fixed.{Under};
 ghost use Rattle.least.specs.Lists.{values, Inside};
 ghost use Rattle.blocks.specs.Sheet.{mostInstant, instantSlot, nodeSlot, instantSum, sums, Small, Shaped, Looking};
 ghost use Rattle.starts.specs.Begins.{BeginIs, BeginFits, Kept};
-ghost use Rattle.starts.specs.Runs.{LowTo, InstantIs, ResponsesAre};
+ghost use Rattle.starts.specs.Runs.{LowTo, RaisedAt, InstantIs, ResponsesAre};
 ghost use Rattle.starts.specs.Steps.{SheetStep};
 ghost use Rattle.starts.specs.Kept.{Strided, KeptTo, SumsTo};
 
@@ -45,14 +45,15 @@ fn start_at(e: &[u64], v: &mut [u64], p: usize, u: u64, kept: u64, looks: u64, f
     Begin::Past
 }
 
-// The instant u if the bound there is above the most so far, otherwise the one that gave the most.
-fn peak_at(most: u64, peak: u64, bound: u64, u: u64) -> u64
-    ensures { λ r. ⌜ (bound ≤ most → r ≡ peak) × (most < bound → r ≡ u) ⌝ }
+// The bound of node p raised, with the instant u as its peak, if the bound there is above the one so far.
+fn raise_at(best: &mut [u64], m: usize, p: usize, bound: u64, u: u64)
+    requires { ⌜ (p < m) × (m + m ≤ length (now best)) × (m + m ≤ 16777216) ⌝ }
+    ensures { λ r. ⌜ RaisedAt m p bound u (now (best .entry)) (now (best .exit)) ⌝ }
 {
-    if most < bound {
-        return u;
+    if best[p] < bound {
+        best[p] = bound;
+        best[m + p] = u;
     }
-    peak
 }
 
 // The instant u at the first m nodes, from the kept sums, from starts below the starting times, and from the bounds and the peaks so far; whether one
@@ -83,9 +84,7 @@ fn instant(
         slots[p + NODE] = w;
         let add = e[blocks::block_at(e, p) + 1];
         let bound = least::less(w + add, u);
-        let so_far = best[p];
-        best[m + p] = peak_at(so_far, best[m + p], bound, u);
-        best[p] = least::greater(so_far, bound);
+        raise_at(best, m, p, bound, u);
         at += stride;
         p += 1;
     }

@@ -2,3 +2,4 @@
 pub mod Steps
 pub mod Sums
 pub mod Kept
+pub mod Counting

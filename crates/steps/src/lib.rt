@@ -10,7 +10,7 @@ ghost use Rattle.least.specs.Count.{count};
 ghost use Rattle.least.specs.Lists.{values, Inside};
 ghost use Rattle.least.specs.Steps.{Step};
 ghost use Rattle.blocks.specs.Sheet.{mostInstant, entrySize, instantSlot, entriesIn, instantTerm, Small, Shaped};
-ghost use Rattle.steps.specs.Steps.{EntryStep, NodeStep};
+ghost use Rattle.steps.specs.Steps.{EntryStep, NodeStep, packetsAt, stepsIn};
 ghost use Rattle.steps.specs.Kept.{keptSize, KeptAt};
 
 // What is kept of a node before its entries' steps: what of the sum hangs on the instant alone, its next step, whether an entry looks at a starting time.
@@ -164,4 +164,40 @@ pub fn keep_node(
         return begin_node(e, steps, p, at, u, end);
     }
     advance_node(e, steps, p, at, u, end)
+}
+
+// The packets in x ticks of the entry at k, if its count looks at the instant.
+fn packets(e: &[u64], k: usize, x: u64) -> u64
+    requires { ⌜ (k + entrySize ≤ length (now e)) × (length (now e) ≤ 16777216) × (x ≤ 65536) ⌝ }
+    ensures { λ r. ⌜ r ≡ packetsAt (now (e .entry)) x k ⌝ }
+    ensures { λ r. ⌜ r ≤ 65536 ⌝ }
+{
+    let slot = e[k] as usize;
+    if slot != INSTANT {
+        return 0;
+    }
+    let period = e[k + 3];
+    if period == 0 {
+        return 0;
+    }
+    x / period
+}
+
+// About how many steps a walk over x ticks has: the packets of the entries at the last of m nodes.
+pub fn count_steps(e: &[u64], m: usize, x: u64) -> u64
+    requires { ⌜ Shaped (now e) m × (x ≤ 65536) ⌝ }
+    ensures { λ r. ⌜ r ≡ stepsIn (now (e .entry)) m x ⌝ }
+{
+    if m == 0 {
+        return 0;
+    }
+    let block = blocks::block_at(e, m - 1);
+    let n = e[block + 2] as usize;
+    let mut sum: u64 = 0;
+    let mut q: usize = 0;
+    while q < n {
+        sum += packets(e, block + HEAD + q * ENTRY, x);
+        q += 1;
+    }
+    sum
 }

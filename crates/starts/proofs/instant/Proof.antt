@@ -12,7 +12,6 @@ use Rattle.starts.proofs.instant.Statement.{statement}
 use Rattle.starts.proofs.instant.Tie as tie
 use Rattle.starts.proofs.instant.Reads as reads
 use Rattle.starts.proofs.instant.Lts as lts
-use Rattle.least.proofs.greater.Reads as greater-reads
 use Rattle.least.proofs.less.Reads as less-reads
 use Rattle.blocks.proofs.block_at.Reads as block-at-reads
 use Rattle.starts.proofs.start_at.Reads as start-at-reads
@@ -134,43 +133,11 @@ add-less c =
 less-requires : tie.Need-less-requires Inv-loop μ-loop
 less-requires c κs = search needs
 
-mul-so-far : tie.Need-mul-so-far Inv-loop μ-loop
-mul-so-far c = search needs
-
-slice-read-so-far : tie.Need-slice-read-so-far Inv-loop μ-loop
-slice-read-so-far c = search needs
-
-add-peak-at : tie.Need-add-peak-at Inv-loop μ-loop
-add-peak-at c = search needs
-
-mul-peak-at : tie.Need-mul-peak-at Inv-loop μ-loop
-mul-peak-at c = search needs
-
-slice-read-peak-at : tie.Need-slice-read-peak-at Inv-loop μ-loop
-slice-read-peak-at c = search needs
-
-peak-at-requires : tie.Need-peak-at-requires Inv-loop μ-loop
-peak-at-requires c κs = search needs
-
-add-best : tie.Need-add-best Inv-loop μ-loop
-add-best c = search needs
-
-mul-best : tie.Need-mul-best Inv-loop μ-loop
-mul-best c = search needs
-
-slice-write-best : tie.Need-slice-write-best Inv-loop μ-loop
-slice-write-best c = search needs
-
-greater-requires : tie.Need-greater-requires Inv-loop μ-loop
-greater-requires c κs = search needs
-
-mul-best-2 : tie.Need-mul-best-2 Inv-loop μ-loop
-mul-best-2 c = search needs
-
-slice-write-best-2 : tie.Need-slice-write-best-2 Inv-loop μ-loop
-slice-write-best-2 c =
-    let l = c .before .before .before .before .before .before .before .before .before .before .before .before .before .before .before .before .before .before .loop in
-    omega (arith, l .inv .0 .wide, c .before .before .before .before .before .before .before .before .before .before .before .before .before .before .before .before .before .loop-test .taken, length-set (l .best) (c .before .before .before .before .before .before .before .before .before .before .before .before .before .before .before .before .before .before .before .before .before .before .before .args .m + l .p) (c .before .peak-at .result))
+raise-at-requires : tie.Need-raise-at-requires Inv-loop μ-loop
+raise-at-requires c κs =
+    let a = c .before .before .before .before .before .before .before .before .before .before .before .before .before .before .before .before .before .before .before .before in
+    let l = c .before .before .before .before .before .before .before .before .before .before .before .before .before .before .before .loop in
+    (omega (arith, c .before .before .before .before .before .before .before .before .before .before .before .before .before .before .loop-test .taken), l .inv .0 .wide, a .pre .0 .5)
 
 add-at : tie.Need-add-at Inv-loop μ-loop
 add-at c =
@@ -190,8 +157,8 @@ loop-again c =
     let l = c .before .before .before .before .before .before .before .before .before .before .before .before .before .before .before .before .before .before .loop in
     let s = c .before .before .before .before .before .before .before .before .before .before .before .before .start-at in
     let add = ap (λ x. values (a .args .e .now) (x + 1)) (c .before .before .before .before .before .before .block-at .ensures .0) in
-    let k = c .before .peak-at in
-    (going-more (a .args .e .now) (a .args .m) (a .args .u) _ _ (l .slots) (l .best) (l .p) (l .inv .0) (omega (arith, c .before .before .before .before .before .before .before .before .before .before .before .before .before .before .before .before .before .loop-test .taken)) (a .pre .0 .0 .looks) (s .result) (s .ensures .0) (s .ensures .1 .0) _ (c .before .before .before .before .before .before .before .before .w .given .1) (s .last .1 .0) (s .ensures .1 .1) (c .before .before .before .before .less .result) (k .result) (c .greater .result) (omega arith) (c .greater .ensures) (k .ensures) (a .pre .0 .1), omega (arith, l .inv .1))
+    let k = c .before .before .raise-at in
+    (going-more (a .args .e .now) (a .args .m) (a .args .u) _ _ (l .slots) (l .best) (l .p) (l .inv .0) (omega (arith, c .before .before .before .before .before .before .before .before .before .before .before .before .before .before .before .before .before .loop-test .taken)) (a .pre .0 .0 .looks) (s .result) (s .ensures .0) (s .ensures .1 .0) _ (c .before .before .before .before .before .before .before .before .w .given .1) (s .last .1 .0) (s .ensures .1 .1) (c .before .before .before .before .less .result) (omega arith) (k .last .0) (k .ensures) (a .pre .0 .1), omega (arith, l .inv .1))
 
 same-length-3 : tie.Need-same-length-3 Inv-loop μ-loop
 same-length-3 c =
@@ -239,18 +206,7 @@ instant-spec =
     shared-slice-read-add
     add-less
     less-requires
-    mul-so-far
-    slice-read-so-far
-    add-peak-at
-    mul-peak-at
-    slice-read-peak-at
-    peak-at-requires
-    add-best
-    mul-best
-    slice-write-best
-    greater-requires
-    mul-best-2
-    slice-write-best-2
+    raise-at-requires
     add-at
     add-p
     loop-less
