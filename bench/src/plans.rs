@@ -205,28 +205,31 @@ fn found(plan: &[u8]) -> Vec<u8> {
     plan.to_vec()
 }
 
-/// A generator (xorshift) with a fixed seed.
-struct Chance(u64);
+/// A generator (xorshift), from its seed on.
+pub struct Chance(pub u64);
 
 impl Chance {
     /// A number from the least to the greatest.
-    fn pick(&mut self, least: u16, greatest: u16) -> u16 {
+    pub fn pick(&mut self, least: u64, greatest: u64) -> u64 {
         self.0 ^= self.0 << 13;
         self.0 ^= self.0 >> 7;
         self.0 ^= self.0 << 17;
-        let choices = (greatest - least) as u64 + 1;
-        least + ((self.0 >> 32) % choices) as u16
+        least + (self.0 >> 32) % (greatest - least + 1)
+    }
+
+    fn short(&mut self, least: u16, greatest: u16) -> u16 {
+        self.pick(least.into(), greatest.into()) as u16
     }
 }
 
 /// A run of successive nodes of a line of twelve, forwards or backwards: such paths cross as they may.
 fn stretch(chance: &mut Chance, dearest: u16) -> Vec<(u8, u16)> {
-    let length = chance.pick(2, 8);
-    let first = chance.pick(1, 13 - length);
+    let length = chance.short(2, 8);
+    let first = chance.short(1, 13 - length);
     let mut path: Vec<(u8, u16)> = (first..first + length)
-        .map(|h| (h as u8, chance.pick(1, dearest)))
+        .map(|h| (h as u8, chance.short(1, dearest)))
         .collect();
-    if chance.pick(0, 1) == 1 {
+    if chance.short(0, 1) == 1 {
         path.reverse();
     }
     path
@@ -234,14 +237,14 @@ fn stretch(chance: &mut Chance, dearest: u16) -> Vec<(u8, u16)> {
 
 /// A plan with long periods. The load is chosen for the whole, so that busy lengths are thousands of ticks whether flows are few or many.
 fn wide_plan(chance: &mut Chance) -> Vec<u8> {
-    let flows = chance.pick(4, 16);
-    let priorities = chance.pick(1, 3);
-    let dearest = (chance.pick(10000, 40000) / flows).min(4095);
+    let flows = chance.short(4, 16);
+    let priorities = chance.short(1, 3);
+    let dearest = (chance.short(10000, 40000) / flows).min(4095);
     let flow = |a: u16| Flow {
         number: a as u8 + 1,
-        priority: (chance.pick(1, priorities) - 1) as u8,
-        period: chance.pick(5000, 65535),
-        jitter: chance.pick(0, 3000),
+        priority: (chance.short(1, priorities) - 1) as u8,
+        period: chance.short(5000, 65535),
+        jitter: chance.short(0, 3000),
         path: stretch(chance, dearest),
     };
     let flows: Vec<Flow> = (0..flows).map(flow).collect();

@@ -8,6 +8,7 @@ mod plain;
 mod plans;
 
 use plain::{Counts, Flow, Set, Walk};
+use plans::Chance;
 use std::time::{Duration, Instant};
 
 const DEAREST: u64 = 4095;
@@ -17,17 +18,7 @@ const MOST: u64 = 1_000_000_000;
 /// Changes without gain after which the search starts again.
 const PATIENCE: u32 = 400;
 
-/// A generator (xorshift).
-struct Chance(u64);
-
 impl Chance {
-    fn pick(&mut self, least: u64, greatest: u64) -> u64 {
-        self.0 ^= self.0 << 13;
-        self.0 ^= self.0 >> 7;
-        self.0 ^= self.0 << 17;
-        least + (self.0 >> 32) % (greatest - least + 1)
-    }
-
     fn one_in(&mut self, n: u64) -> bool {
         self.pick(1, n) == 1
     }
