@@ -16,6 +16,7 @@ false_true e = absurd (let z : ◌≡◌ {A = ℕ} 0 1 = cc in omega arith)
 module _ {A : Type 0} where
   -- membership
   pub mem_sublist : {a : A} {l m : List A} → Sublistᴰ l m → Memᴰ a l → Memᴰ a m
+  mem_sublist {a = a} Sublistᴰ.slnil p = elim p [ ]
   mem_sublist (Sublistᴰ.cons s) p = Memᴰ.tail (mem_sublist s p)
   mem_sublist (Sublistᴰ.cons-cons e s) (Memᴰ.head q) = Memᴰ.head (q ∙ e)
   mem_sublist (Sublistᴰ.cons-cons e s) (Memᴰ.tail p) = Memᴰ.tail (mem_sublist s p)
@@ -28,6 +29,7 @@ module _ {A : Type 0} where
 
   pub sum_tight : (f g : A → ℕ) (l : List A) → ((x : A) → Memᴰ x l → f x ≤ g x) → sum_of g l ≤ sum_of f l → (x : A) → Memᴰ x l → g x ≤ f x
   unfolding sum_of
+  sum_tight f g [] h t x m = elim m [ ]
   sum_tight f g (y ∷ l) h t x (Memᴰ.head e) = omega (arith, h y (Memᴰ.head refl), ap f e, ap g e, sum_le f g l (λ z m. h z (Memᴰ.tail m)))
   sum_tight f g (y ∷ l) h t x (Memᴰ.tail m) = sum_tight f g l (λ z n. h z (Memᴰ.tail n)) (omega (arith, h y (Memᴰ.head refl))) x m
 
