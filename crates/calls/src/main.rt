@@ -1,5 +1,6 @@
 // Answers the calls on standard input: Lmin and Lmax, then A, W, Q, T, P, B, L, S, J, R, F or N and what belongs to it, one after the other.
 // After P the table is the one that the written plan gives when it is read and judged.
+#![tactic(auto)]
 ghost use Rattle.std.specs.Prelude.{◌<◌, ◌≤◌, length};
 
 use flows::{Answer, Table, Written};
@@ -7,7 +8,7 @@ use libc::STDIN_FILENO;
 use plan::FlowSet;
 
 // What is kept between calls, and whether there are more.
-#[derive(Drop)]
+#[derive(Clone, Copy)]
 struct Kept {
     more: bool,
     table: Table,

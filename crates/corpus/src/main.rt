@@ -1,4 +1,5 @@
 // Judges the plans of a corpus on standard input: for each, its length in two bytes, then its bytes.
+#![tactic(auto)]
 ghost use Rattle.std.specs.Prelude.{◌<◌};
 
 use libc::STDIN_FILENO;

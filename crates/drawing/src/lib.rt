@@ -1,4 +1,5 @@
 // A row and its link delays as the numbers that are lent.
+#![tactic(auto)]
 ghost use Rattle.std.specs.Prelude.{◌≡◌, ◌+◌, ◌≤◌, length};
 ghost use Rattle.flows.specs.Lists.{held, net_of};
 ghost use Rattle.nets.specs.Nets.{Whole, count_in, room_in, net_in};

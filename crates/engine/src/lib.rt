@@ -1,4 +1,5 @@
 // The judgement of a set: refusals 7 to 10, or the figures of each flow.
+#![tactic(auto)]
 ghost use Rattle.std.specs.Prelude.{◌≡◌, ◌+◌, ◌-◌, ◌*◌, ◌≤◌, ◌<◌, ltb, length};
 ghost use Rattle.least.specs.Fold.{sum_of};
 ghost use Rattle.rules.specs.Formula.{least};
@@ -34,7 +35,7 @@ const STEPS: usize = 152;
 const BEST: usize = 16;
 
 // Accepted with the figures of each flow in the row's order; or the refusal, and figures of 0.
-#[derive(Drop)]
+#[derive(Clone, Copy)]
 pub struct Verdict {
     pub cause: Cause,
     pub figures: [Figures; FLOWS],

@@ -1,4 +1,5 @@
 // What stands against a set of any size: which of refusals 7 to 9, or nothing.
+#![tactic(auto)]
 ghost use Rattle.std.specs.Prelude.{◌≡◌, ◌*◌, ◌≤◌, length};
 ghost use Rattle.rules.specs.Valid.{Valid};
 ghost use Rattle.nets.specs.Nets.{Whole, count_in, room_in, net_in};
@@ -52,7 +53,7 @@ fn first_overload(busies: &[u64], n: usize) -> usize
 }
 
 // What stands against a set, with the place of the flow at fault; or nothing.
-#[derive(Drop)]
+#[derive(Clone, Copy)]
 pub enum Finding {
     Misplaced(usize),
     Overloaded(usize),

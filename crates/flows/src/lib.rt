@@ -1,4 +1,5 @@
 // The types of the table, why a call is refused, and refusals 1 to 4 as tests.
+#![tactic(auto)]
 ghost use Rattle.std.specs.Prelude.{◌≡◌, ◌<◌, ◌≤◌, length};
 ghost use Rattle.flows.specs.Refusals.{number_of, accepted_by, flow_named, refusal_of, cause_in, place_in};
 ghost use Rattle.flows.specs.Lists.{most_nodes, no_flow, path_of, unused_of};
@@ -16,7 +17,7 @@ pub const DELAY: u16 = 4095;
 pub const COST: u16 = 4095;
 
 // The first length nodes and costs are the path; the others are 0.
-#[derive(Drop)]
+#[derive(Clone, Copy)]
 pub struct Flow {
     pub number: u8,
     pub priority: u8,
@@ -29,7 +30,7 @@ pub struct Flow {
 }
 
 // At most the horizon, 65,535.
-#[derive(Drop)]
+#[derive(Clone, Copy)]
 pub struct Figures {
     pub bound: u16,
     pub jitter: u16,
@@ -37,14 +38,14 @@ pub struct Figures {
 }
 
 // The first count flows, in rising number; the other places are zero.
-#[derive(Drop)]
+#[derive(Clone, Copy)]
 pub struct Row {
     pub flows: [Flow; FLOWS],
     pub count: usize,
 }
 
 // The figures stand at the places of their flows.
-#[derive(Drop)]
+#[derive(Clone, Copy)]
 pub struct Table {
     pub lmin: u16,
     pub lmax: u16,
@@ -53,7 +54,7 @@ pub struct Table {
 }
 
 // Refusals 1 to 13 in their order, with the flow that 7, 8 and 10 name. RULES, refusals.
-#[derive(Drop)]
+#[derive(Clone, Copy)]
 pub enum Cause {
     Accepted,
     Delays,
@@ -71,7 +72,7 @@ pub enum Cause {
     ShortBuffer,
 }
 
-#[derive(Drop)]
+#[derive(Clone, Copy)]
 pub struct Refusal {
     pub number: u8,
     pub flow: u8,
@@ -79,28 +80,28 @@ pub struct Refusal {
 }
 
 // The new table; or why not, the place in the plan, and the table that goes with a refusal: the old one, or one without flows.
-#[derive(Drop)]
+#[derive(Clone, Copy)]
 pub struct Answer {
     pub cause: Cause,
     pub place: usize,
     pub table: Table,
 }
 
-#[derive(Drop)]
+#[derive(Clone, Copy)]
 pub enum Asked {
     Given(Figures),
     Refused(Refusal),
 }
 
 // Of reading records: all were read, or the first that is refused, with its place.
-#[derive(Drop)]
+#[derive(Clone, Copy)]
 pub enum Outcome {
     Read,
     Refused(Cause, usize),
 }
 
 // Of writing: the length of what was written, or the refusal of the buffer.
-#[derive(Drop)]
+#[derive(Clone, Copy)]
 pub enum Written {
     Length(usize),
     Refused(Refusal),

@@ -1,4 +1,5 @@
 // Judges the plan on standard input. 583 bytes decide every longer input: a seventeenth record, which is refused, ends there.
+#![tactic(auto)]
 use libc::STDIN_FILENO;
 
 fn main() {

@@ -1,4 +1,5 @@
 // A report read, written and asked: its lines, one after the other, as the reader sees their records. RULES, the report.
+#![tactic(auto)]
 ghost use Rattle.std.specs.Prelude.{◌≡◌, [], ◌++◌, ◌+◌, ◌*◌, ◌≤◌, length, take, drop};
 ghost use Rattle.flows.specs.Lists.{most_flows};
 ghost use Rattle.records.specs.Kinds.{count_record, line_record};
@@ -12,14 +13,14 @@ use reader::Kind;
 use records::Line;
 
 // The first count lines, in rising number; the other places are zero.
-#[derive(Drop)]
+#[derive(Clone, Copy)]
 pub struct Report {
     pub lines: [Line; FLOWS],
     pub count: usize,
 }
 
 // The lines that the records list; if one is refused, none.
-#[derive(Drop)]
+#[derive(Clone, Copy)]
 pub struct Reading {
     pub outcome: Outcome,
     pub report: Report,

@@ -1,4 +1,5 @@
 // A plan read and written: its records, one after the other, as the reader sees them.
+#![tactic(auto)]
 ghost use Rattle.std.specs.Prelude.{◌≡◌, ◌++◌, ◌+◌, ◌*◌, ◌≤◌, length, take, drop};
 ghost use Rattle.flows.specs.Lists.{held};
 ghost use Rattle.records.specs.Kinds.{links_record, flow_record};
@@ -10,7 +11,7 @@ use flows::{Cause, FLOWS, Flow, Outcome, Row, Written};
 use reader::Kind;
 
 // What a plan lists: link delays and flows, tested one by one. Nobody has judged them together.
-#[derive(Drop)]
+#[derive(Clone, Copy)]
 pub struct FlowSet {
     pub lmin: u16,
     pub lmax: u16,
@@ -18,7 +19,7 @@ pub struct FlowSet {
 }
 
 // The set that the records list; if one is refused, the empty set with both link delays 0.
-#[derive(Drop)]
+#[derive(Clone, Copy)]
 pub struct Reading {
     pub outcome: Outcome,
     pub set: FlowSet,

@@ -1,9 +1,10 @@
 // The reader of plans and reports: the caller's bytes and a place in them. The work is done on a slice and a number; the reader's own functions are thin.
+#![tactic(auto)]
 ghost use Rattle.std.specs.Prelude.{◌≡◌};
 ghost use Rattle.reader.specs.Places.{kind_named, body_of, kind_of, kind_at};
 
 // The whole record at a place; OfNone where no kind byte is left, the kind is unknown or the body short. OfLinks, OfFlow and OfEnd are a plan's, OfCount, OfLine and OfClose a report's.
-#[derive(Drop)]
+#[derive(Clone, Copy)]
 pub enum Kind {
     OfLinks,
     OfFlow,
@@ -14,7 +15,7 @@ pub enum Kind {
     OfNone,
 }
 
-#[derive(Drop)]
+#[derive(Clone, Copy)]
 pub struct Reader<'a> {
     pub src: &'a [u8],
     pub at: usize,

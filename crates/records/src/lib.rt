@@ -1,4 +1,5 @@
 // The kinds of a plan's and of a report's records, and their bodies read and written; of a two-byte number the high byte comes first. RULES, the plan, the report.
+#![tactic(auto)]
 ghost use Rattle.std.specs.Prelude.{◌≡◌, ◌+◌, ◌*◌, ◌/◌, ◌%◌, ◌<◌, length};
 ghost use Rattle.records.specs.Kinds.{links_body, flow_body, flow_nodes, line_body};
 ghost use Rattle.records.specs.Bodies.{word_at, bytes_from, words_from, links_read, flow_read, links_written, head_written, words_written, flow_written, line_read, line_written};
@@ -37,14 +38,14 @@ pub const LINE_RECORD: usize = 1 + LINE_BODY;
 // Kind 02 has eight nodes and costs, whatever a path may have at most.
 const FLOW_NODES: usize = 8;
 
-#[derive(Drop)]
+#[derive(Clone, Copy)]
 pub struct Links {
     pub lmin: u16,
     pub lmax: u16,
 }
 
 // A line of a report: a flow's number and its figures.
-#[derive(Drop)]
+#[derive(Clone, Copy)]
 pub struct Line {
     pub number: u8,
     pub figures: Figures,

@@ -1,4 +1,5 @@
 // Which flows are to be worked out again: what rose, who reads it, whose turn is next.
+#![tactic(auto)]
 ghost use Rattle.std.specs.Prelude.{◌≡◌, true, false, ◌+◌, ◌*◌, ◌<◌, ◌≤◌, length};
 ghost use Rattle.nets.specs.Nets.{few, Whole, count_in, flow_in};
 ghost use Rattle.crossings.specs.Pairs.{Noted};

@@ -1,4 +1,5 @@
 // The flows of a table in rising number: found, put in, taken out.
+#![tactic(auto)]
 ghost use Rattle.std.specs.Prelude.{◌≡◌, List, [], ◌++◌, ◌+◌, ◌-◌, ◌≤◌, ◌<◌, length, take, drop};
 ghost use Rattle.flows.specs.declared.Flow.{Flow};
 ghost use Rattle.flows.specs.Lists.{most_flows, held, row_of};
@@ -8,7 +9,7 @@ ghost use Rattle.row.specs.Sets.{OfEntry};
 
 use flows::{Cause, FLOWS, Flow, Row};
 
-#[derive(Drop)]
+#[derive(Clone, Copy)]
 pub enum Found {
     At(usize),
     Nothing,

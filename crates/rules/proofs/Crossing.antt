@@ -63,6 +63,7 @@ module _ (P : List Hop) where
   -- not found: what lies before a node on P is on P
   meets-none : (l : List Hop) → meets_again P l ≡ false → (m n : Hop) → Sublistᴰ (m ∷ n ∷ []) l → met n → met m
   unfolding meets_again
+  meets-none [] e m n s o = elim s [ ]
   meets-none (k ∷ l) e m n s o = go (meets-none l) (visits P k.node) refl e s
     where
       behind : any_of (λ m. visits P m.node) l ≡ false → Memᴰ n l → met m
@@ -77,6 +78,7 @@ module _ (P : List Hop) where
 
   returns-none : (l : List Hop) → returns P l ≡ false → (k m n : Hop) → Sublistᴰ (k ∷ m ∷ n ∷ []) l → met k → met n → met m
   unfolding returns
+  returns-none [] e k m n s o o' = elim s [ ]
   returns-none (h ∷ l) e k m n s o o' = go (returns-none l) (visits P h.node) refl e s
     where
       go : (returns P l ≡ false → (k m n : Hop) → Sublistᴰ (k ∷ m ∷ n ∷ []) l → met k → met n → met m) → (b : Bool) → visits P h.node ≡ b →

@@ -37,6 +37,7 @@ unfolding crossings
 crossing-flow N i {j} m = go N.flows m
   where
     go : (l : List Flow) → Memᴰ j (map (λ j. record { flow = j; part = keep (λ k. visits i.path k.node) j.path }) l) → Memᴰ j.flow l
+    go [] x' = elim x' [ ]
     go (f ∷ l) (Memᴰ.head e) = Memᴰ.head (ap (λ q. q.flow) e)
     go (f ∷ l) (Memᴰ.tail m) = Memᴰ.tail (go l m)
 

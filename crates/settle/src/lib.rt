@@ -1,5 +1,6 @@
 // The least settled arrival bounds: response bounds raised from zero, flow by flow, until each is up to date. A look at some instants may raise them, since
 // W + C − t at any one is at most what is due; only a look at all shows that a flow is up to date. What is worked on is lent.
+#![tactic(auto)]
 ghost use Rattle.std.specs.Prelude.{◌≡◌, ℕ, ◌+◌, ◌-◌, ◌*◌, ◌<◌, ◌≤◌, max, length};
 ghost use Rattle.least.specs.Lists.{values};
 ghost use Rattle.nets.specs.Nets.{count_in};

@@ -1,4 +1,5 @@
 // What the programs print of plans, tables, reports, bytes and refusals.
+#![tactic(auto)]
 ghost use Rattle.std.specs.Prelude.{◌<◌};
 
 use flows::{Answer, Asked, Figures, Outcome, Refusal, Table, Written};

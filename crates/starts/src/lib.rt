@@ -1,5 +1,6 @@
 // Starting times and response bounds of one flow, from a sheet of numbers that hangs neither on the instant nor on W. Sheet, starting times,
 // steps and bounds are lent, so nothing here has a size.
+#![tactic(auto)]
 ghost use Rattle.std.specs.Prelude.{◌≡◌, false, ◌+◌, ◌-◌, ◌<◌, ◌≤◌, length};
 ghost use Rattle.least.specs.Fixed.{Under};
 ghost use Rattle.least.specs.Lists.{values, Inside};
@@ -15,7 +16,7 @@ use blocks::{HERE, INSTANT, NODE};
 pub const HORIZON: u64 = 65535;
 
 // A starting time, or that its response bound passes the horizon.
-#[derive(Drop)]
+#[derive(Clone, Copy)]
 enum Begin {
     At(u64),
     Past,

@@ -1,5 +1,6 @@
 // When the sum at a node steps up next, and what a walk over the instants keeps of the node: begun at its first instant, taken on at each later one.
 // Sheet and steps are lent, so nothing here has a size.
+#![tactic(auto)]
 ghost use Rattle.std.specs.Prelude.{◌≡◌, ◌+◌, ◌-◌, ◌<◌, ◌≤◌, length};
 ghost use Rattle.least.specs.Count.{count};
 ghost use Rattle.least.specs.Lists.{values, Inside};
