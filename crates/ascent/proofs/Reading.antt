@@ -15,7 +15,7 @@ use Rattle.rules.specs.Valid.{Valid}
 use Rattle.rules.specs.Ready.{Agree}
 use Rattle.rules.proofs.Shared.{shared, slowest_shared, uncrossed_nothing}
 use Rattle.nets.specs.Nets.{count_in, flow_in, flows_in, net_in}
-use Rattle.nets.proofs.Reading.{flows_length, flow_at}
+use Rattle.nets.proofs.Reading.{flows_length, flow_at_lem}
 use Rattle.nets.proofs.Sets.{flow_here_lem, one-flow, own-role}
 use Rattle.entries.specs.Fields.{place_in}
 use Rattle.entries.proofs.Places.{place_at}
@@ -59,11 +59,11 @@ module _ (net : List ℕ) (val : Valid (net_in net)) (b a : ℕ) (hb : b < count
   i = flow_in net b
 
   flow-on : (c : ℕ) → c < count_in net → Here N (flow_in net c)
-  flow-on c h = subst (Here N) (flow_at net c h) (flow_here_lem N c (omega (arith, flows_length net)))
+  flow-on c h = subst (Here N) (flow_at_lem net c h) (flow_here_lem N c (omega (arith, flows_length net)))
 
   place-on : (c : ℕ) → c < count_in net → place_in (flow_in net c).number (flows_in net) ≡ c
   place-on c h =
-      ap (λ j. place_in j.number (flows_in net)) (sym (flow_at net c h)) ∙ place_at (flows_in net) val.rising c (omega (arith, flows_length net))
+      ap (λ j. place_in j.number (flows_in net)) (sym (flow_at_lem net c h)) ∙ place_at (flows_in net) val.rising c (omega (arith, flows_length net))
 
   module _ (S S' : Arrivals) (same : (k : Key) → (k.0 ≡ (flow_in net a).number → ⊥) → S k ≡ S' k) where
     -- another flow than b
@@ -108,5 +108,5 @@ module _ (net : List ℕ) (val : Valid (net_in net)) (b a : ℕ) (hb : b < count
 
   pub unread_is : reads_flow net b a ≡ false → Unread N b a
   unread_is e S S' same =
-      subst (λ j. Agree N j S S') (sym (flow_at net b hb))
-      (unread-in e S S' (λ k ne. same k (λ z. ne (z ∙ ap (λ j. j.number) (flow_at net a ha)))))
+      subst (λ j. Agree N j S S') (sym (flow_at_lem net b hb))
+      (unread-in e S S' (λ k ne. same k (λ z. ne (z ∙ ap (λ j. j.number) (flow_at_lem net a ha)))))

@@ -240,7 +240,7 @@ module _ (row : Row) where
         each : (k : ℕ) → k < length (flows_in full) → get_or (flows_in full) k nets.no_flow ≡ get_or (map flow_of (held row)) k nets.no_flow
         each k h =
             let u : k < count_in full = omega (arith, reading.flows_length full) in
-            reading.flow_at full k u
+            reading.flow_at_lem full k u
             ∙ flow-read (placed row k) full k picture-room (stands k (omega (arith, picture-count)))
             ∙ sym (at_place lmin lmax row k)
 

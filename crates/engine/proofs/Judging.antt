@@ -28,7 +28,7 @@ use Rattle.flows.specs.declared.Cause.TheVariants.{Accepted, Crossing, NoBusyLen
 use Rattle.flows.specs.Lists.{most_flows, most_nodes, flow_of, held, net_of}
 use Rattle.row.specs.Rows.{placed}
 use Rattle.nets.specs.Nets.{count_in, room_in, flow_in, net_in, no_hop, no_flow, flow_at}
-use Rattle.nets.proofs.Reading.{flows_length, flow_at}
+use Rattle.nets.proofs.Reading.{flows_length, flow_at_lem}
 use Rattle.nets.proofs.Places.{member_at}
 use Rattle.drawing.proofs.Drawing.{at_place}
 use Rattle.ascent.specs.Good.{arrivals_in, Rests}
@@ -91,7 +91,7 @@ module _ (net : List ℕ) where
   -- what a search by place finds
   module _ (p : rules.Flow → Bool) (f : ℕ → Judgement) (other : Judgement) (q : ℕ → Bool) (same : (k : ℕ) → k < count_in net → q k ≡ p (flow_in net k)) where
     tested : (k : ℕ) → k < length N.flows → q k ≡ p (flow_at N k)
-    tested k h = let b : k < count_in net = omega (arith, count) in same k b ∙ ap p (sym (flow_at net k b))
+    tested k h = let b : k < count_in net = omega (arith, count) in same k b ∙ ap p (sym (flow_at_lem net k b))
 
     first-fails : (r : ℕ) → FirstAt q (count_in net) r → first_or p f N.flows other ≡ f (flow_at N r).number
     first-fails r i =
@@ -120,7 +120,7 @@ module _ (net : List ℕ) where
 
     module _ (past : Bool) (replies : List ℕ) (o : Outcome net busies past replies) where
       busy_is : (a : ℕ) → a < count_in net → values busies a ≡ busy_length N (flow_at N a)
-      busy_is a h = o.busies_are val a h ∙ ap (busy_length N) (sym (flow_at net a h))
+      busy_is a h = o.busies_are val a h ∙ ap (busy_length N) (sym (flow_at_lem net a h))
 
       light-judged : load_judged N ≡ settled_judged N
       unfolding load_judged horizon

@@ -19,7 +19,7 @@ use Rattle.rules.specs.Net.{Hop, Flow, Net}
 use Rattle.rules.specs.Formula.{Role, Own, Higher, Equal, both, role, lower, visits, first_on, last_on, cost_at, crosses, smin, M}
 use Rattle.rules.specs.Valid.{Distinct, Valid}
 use Rattle.nets.specs.Nets.{count_in, room_in, length_in, field_in, hop_in, path_in, flow_in, flows_in, net_in, no_hop, flow_at, node_at, position_of}
-use Rattle.nets.proofs.Reading.{path_length, path_at, path_front, flows_length, flow_at}
+use Rattle.nets.proofs.Reading.{path_length, path_at, path_front, flows_length, flow_at_lem}
 use Rattle.nets.proofs.Places.{member_at, visits_at, before_take, own_place, own_same}
 use Rattle.nets.proofs.Sets.{flow_here_lem, distinct_in, one-flow, own_number}
 use Rattle.crossings.specs.Pairs.{place_on}
@@ -165,16 +165,16 @@ cross_own l p h =
 -- the fields of a sheet but its entries
 module _ (net : List ℕ) (val : Valid (net_in net)) (a : ℕ) (one : a < count_in net) (p : ℕ) (on : p < length_in net a) where
   pub upto_at : up_to (flow_at (net_in net) a) p ≡ take (p + 1) (path_in net a)
-  upto_at = ap (λ (i : Flow). up_to i p) (flow_at net a one)
+  upto_at = ap (λ (i : Flow). up_to i p) (flow_at_lem net a one)
 
   pub node_at : node_at (flow_at (net_in net) a) p ≡ (hop_in net a p).node
-  node_at = ap (λ (i : Flow). node_at i p) (flow_at net a one) ∙ ap (λ (q : Hop). q.node) (path_at net a p on)
+  node_at = ap (λ (i : Flow). node_at i p) (flow_at_lem net a one) ∙ ap (λ (q : Hop). q.node) (path_at net a p on)
 
   pub added_at : (hop_in net a p).cost + field_in net a 3 ≡ added_of (flow_at (net_in net) a) (node_at (flow_at (net_in net) a) p)
   unfolding added_of
   added_at =
       ap (λ c. c + field_in net a 3) (sym (own_cost net a (distinct_in net val a one) p on))
-      ∙ ap₂ (λ (i : Flow) h. cost_at i.path h + i.jitter) (sym (flow_at net a one)) (sym node_at)
+      ∙ ap₂ (λ (i : Flow) h. cost_at i.path h + i.jitter) (sym (flow_at_lem net a one)) (sym node_at)
 
 -- the entry of b at place p of a's path
 module _ (net : List ℕ) (val : Valid (net_in net)) (a b : ℕ) (one : a < count_in net) (other : b < count_in net) (r : ℕ → ℕ) (p : ℕ)
@@ -192,17 +192,17 @@ module _ (net : List ℕ) (val : Valid (net_in net)) (a b : ℕ) (one : a < coun
   distinct = distinct_in net val a one
 
   role-at : role (flow_at N a) (flow_at N b) ≡ role (flow_in net a) (flow_in net b)
-  role-at = ap₂ role (flow_at net a one) (flow_at net b other)
+  role-at = ap₂ role (flow_at_lem net a one) (flow_at_lem net b other)
 
   -- where b is a itself
   module _ (own : role (flow_in net a) (flow_in net b) ≡ Own) where
-    pub own_at : entry (role (flow_at N a) (flow_at N b)) ≡ own_at net a p
+    pub own_at_lem : entry (role (flow_at N a) (flow_at N b)) ≡ own_at net a p
     unfolding entry_of own_at
-    own_at = ap entry (role-at ∙ own) ∙ rw (flow_at net a one, own_slowest net a distinct (p + 1) (omega arith))
+    own_at_lem = ap entry (role-at ∙ own) ∙ rw (flow_at_lem net a one, own_slowest net a distinct (p + 1) (omega arith))
 
     pub counted_own : (w h : ℕ) → counted N w r a P h b ≡ true
     unfolding counted
-    counted_own w h = rw (role-at, own, ← same, flow_at net a one) (cross_own (path_in net a) p (omega (arith, path_length net a)))
+    counted_own w h = rw (role-at, own, ← same, flow_at_lem net a one) (cross_own (path_in net a) p (omega (arith, path_length net a)))
       where
         same : flow_at N a ≡ flow_at N b
         same =
@@ -213,7 +213,7 @@ module _ (net : List ℕ) (val : Valid (net_in net)) (a b : ℕ) (one : a < coun
   module _ (f : ℕ) (first : First (place_on net a b) (length_in net a) (length_in net b) f) where
     pub counted_at : (w h : ℕ) → counted N w r a P h b ≡ both (not (lower (role (flow_in net a) (flow_in net b)))) (ltb f (p + 1))
     unfolding counted
-    counted_at w h = rw (flow_at net a one, flow_at net b other, cross-shared net a b f first p on)
+    counted_at w h = rw (flow_at_lem net a one, flow_at_lem net b other, cross-shared net a b f first p on)
 
     -- where the prefix has it: l is the last, g the one that b passes first
     module _ (q : f ≤ p) where
@@ -243,8 +243,8 @@ module _ (net : List ℕ) (val : Valid (net_in net)) (a b : ℕ) (one : a < coun
       higher_at e =
           ap entry (role-at ∙ e)
           ∙ rw (
-            flow_at net a one,
-            flow_at net b other,
+            flow_at_lem net a one,
+            flow_at_lem net b other,
             last-shared net a b f first p on q (hop_in net a p).node,
             first_shared net a b p on f first q,
             slowest_to net a b (distinct_in net val b other) (p + 1) (omega arith),
@@ -261,8 +261,8 @@ module _ (net : List ℕ) (val : Valid (net_in net)) (a b : ℕ) (one : a < coun
       equal_at e =
           ap entry (role-at ∙ e)
           ∙ rw (
-            flow_at net a one,
-            flow_at net b other,
+            flow_at_lem net a one,
+            flow_at_lem net b other,
             near-shared net a b f first p on q,
             first_shared net a b p on f first q,
             slowest_to net a b (distinct_in net val b other) (p + 1) (omega arith),

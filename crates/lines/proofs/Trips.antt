@@ -44,8 +44,8 @@ module _ (b : List ℕ) (at : ℕ) {rest : List ℕ} (e : drop at b ≡ rest) wh
     line-next : drop (at + line_record) b ≡ s.rest
     line-next = record_next b at e OfLine (line_written l) s.rest (body_long l) s.bytes
 
-    pub line_here : kind_at b at ≡ OfLine
-    line_here = record_here b at e OfLine (line_written l) s.rest (body_long l) s.bytes
+    pub line_here_lem : kind_at b at ≡ OfLine
+    line_here_lem = record_here b at e OfLine (line_written l) s.rest (body_long l) s.bytes
 
     pub line_same : line_at b at ≡ l
     line_same = ap line_read (record_body b at e OfLine (line_written l) s.rest (body_long l) s.bytes) ∙ line_again l s.typed
@@ -100,7 +100,7 @@ read_lines_lem (g ∷ gs) ls b post at more s (rising-more j r) (each_more x p) 
     omega (arith, length-append (line_bytes g) (lines_bytes gs), body_long g) in
     let v : RisingBy (λ l. l.number) (last_number (ls ++ (g ∷ []))) gs = rw (number_last ls g) r in
     let ih = read_lines_lem gs (ls ++ (g ∷ [])) b post (at + line_record) more (line-next b at s z) v p t in
-    rw n (lines_at_line ls b at (length gs + more) (line_here b at s z) ∙
+    rw n (lines_at_line ls b at (length gs + more) (line_here_lem b at s z) ∙
     rw (line_same b at s z, accepted-line (last_number ls) g j x) (rw (append_snoc ls g gs, q) at ih))
 
 module _ {b : List ℕ} {n : ℕ} {ls : List Line} {place : ℕ} {rest : List ℕ} (a : After b n ls place rest) where

@@ -34,7 +34,7 @@ use Rattle.lines.specs.Writing.{count_bytes, line_bytes, lines_bytes, report_byt
 use Rattle.lines.specs.Demands.{Possible, Listable, InForm, StartsCount, StartsLine, StartsClose, After, OfRecord, not-rising, not-possible, Unread, no-count, too_many, no_line, of-line, no-close, after-close, Sought, at-start, behind, Foreign}
 use Rattle.lines.proofs.Steps.{close_at_other, close_more, number_last, lines_end, lines_at_line, lines_at_other, report_at_other}
 use Rattle.lines.proofs.Puts.{body_long, lines_long}
-use Rattle.lines.proofs.Trips.{close_here, close_starts, line_here, line_same, line_starts, count_starts, count_here, report_starts, accepted-line, after_rest, read_after, form_read}
+use Rattle.lines.proofs.Trips.{close_here, close_starts, line_here_lem, line_same, line_starts, count_starts, count_here, report_starts, accepted-line, after_rest, read_after, form_read}
 
 -- ---- a line's record: accepted, or refused as the words say
 pub possible : (g : Figures) → figures_fit g ≡ true → Possible g
@@ -153,7 +153,7 @@ module _ (b : List ℕ) (u : Bytes b) where
 
         go : (kind_at b at ≡ OfLine) ⊎ (kind_at b at ≡ OfLine → ⊥) → Decided b
         go (inl k) = tested (line_starts b at (after_rest a) u k) (of-record ls (line_at b at))
-        go (inr m) = unread Malformed at (no_line n ls at rest a h (λ l s. m (line_here b at (after_rest a) s)))
+        go (inr m) = unread Malformed at (no_line n ls at rest a h (λ l s. m (line_here_lem b at (after_rest a) s)))
 
   after-decided : (more : ℕ) {n : ℕ} {ls : List Line} {at : ℕ} {rest : List ℕ} → more + length ls ≡ n → After b n ls at rest → Decided b
   after-decided zero h a = close-decided a (omega arith)
@@ -190,7 +190,7 @@ module _ (b : List ℕ) (u : Bytes b) where
       after_line a h ∙ lines_at_other ls b at (n - (length ls + 1)) (λ k. m _ (line_starts b at (after_rest a) u k))
   gives c place (of-line n ls at rest l d a h s o) =
       let q = record-only ls l d o in
-      after_line a h ∙ lines_at_line ls b at (n - (length ls + 1)) (line_here b at (after_rest a) s) ∙ rw (line_same b at (after_rest a) s, q.0, q.1)
+      after_line a h ∙ lines_at_line ls b at (n - (length ls + 1)) (line_here_lem b at (after_rest a) s) ∙ rw (line_same b at (after_rest a) s, q.0, q.1)
   gives c place (no-close n ls at rest a h m) = after-end a h ∙ lines_end ls b at ∙ close_at_other (report_of ls) b at (λ k. m (close_starts b at (after_rest a) k))
   gives c place (after-close n ls at x y a h) =
       let s : StartsClose (close_kind ∷ x ∷ y) = record { rest = x ∷ y; bytes = refl } in

@@ -17,8 +17,8 @@ use Rattle.rules.specs.Judge.{returns, misplaced}
 use Rattle.rules.specs.Valid.{Distinct, Valid}
 use Rattle.rules.proofs.Shared.{slowest_shared}
 use Rattle.nets.specs.Nets.{count_in, length_in, field_in, path_in, flow_in, flows_in, net_in, no_flow}
-use Rattle.nets.proofs.Reading.{path_length, flows_length, flow_at}
-use Rattle.nets.proofs.Sets.{flow_in, distinct_in, one_place}
+use Rattle.nets.proofs.Reading.{path_length, flows_length, flow_at_lem}
+use Rattle.nets.proofs.Sets.{flow_in_lem, distinct_in, one_place}
 use Rattle.crossings.proofs.Costs.{slowest_to}
 use Rattle.loads.specs.Load.{slowest_on, weight_in, packets_in, load_by, strays_in}
 
@@ -40,7 +40,7 @@ module _ (net : List ℕ) where
   -- over the flows of the set
   sum-flows : (f : Flow → ℕ) → sum_to (count_in net) (λ b. f (flow_in net b)) ≡ sum_of f (flows_in net)
   sum-flows f =
-      sum_to_ext (count_in net) _ _ (λ b h. ap f (sym (flow_at net b h))) ∙ ap (λ n. sum_to n (λ b. f (get_or (flows_in net) b no_flow))) (sym (flows_length net))
+      sum_to_ext (count_in net) _ _ (λ b h. ap f (sym (flow_at_lem net b h))) ∙ ap (λ n. sum_to n (λ b. f (get_or (flows_in net) b no_flow))) (sym (flows_length net))
       ∙ sum_to_list f (flows_in net) no_flow
 
   module _ (a : ℕ) where
@@ -71,7 +71,7 @@ module _ (net : List ℕ) where
           same : (b : ℕ) → b < count_in net → field_in net a 0 ≡ field_in net b 0 → b ≡ a
           same b h e =
               sym (one_place (flows_in net) v.rising a b (omega (arith, flows_length net)) (omega (arith, flows_length net))
-              (ap (λ f. f.number) (flow_at net a on) ∙ e ∙ sym (ap (λ f. f.number) (flow_at net b h))))
+              (ap (λ f. f.number) (flow_at_lem net a on) ∙ e ∙ sym (ap (λ f. f.number) (flow_at_lem net b h))))
 
       pub load_whole : (x : ℕ) → load_by net (weight_in net a) x ≡ load (net_in net) (flow_in net a) x
       unfolding load_by load own_weight weight_in
@@ -97,11 +97,11 @@ module _ (net : List ℕ) where
     module _ (n : ℕ) (len : n ≡ count_in net) (b : ℕ) where
       pub strays_found : b < n → (x : Bool) → x ≡ strays_in net a b → x ≡ true → true ≡ misplaced (net_in net) (flow_in net a)
       unfolding misplaced strays_in
-      strays_found h x e t = sym (any_at _ (flow_in net b (omega arith)) (sym e ∙ t))
+      strays_found h x e t = sym (any_at _ (flow_in_lem net b (omega arith)) (sym e ∙ t))
 
       pub strays_none : n ≤ b → ((k : ℕ) → k < b → strays_in net a k ≡ false) → false ≡ misplaced (net_in net) (flow_in net a)
       unfolding misplaced strays_in
       strays_none q h =
           sym (any_none _ (flows_in net) no_flow
           (λ k i. let j : k < count_in net = omega (arith, flows_length net) in
-          ap (λ f. both (leb (field_in net a 1) f.priority) (returns (path_in net a) f.path)) (flow_at net k j) ∙ h k (omega arith)))
+          ap (λ f. both (leb (field_in net a 1) f.priority) (returns (path_in net a) f.path)) (flow_at_lem net k j) ∙ h k (omega arith)))

@@ -25,6 +25,6 @@ module _ (net : List ℕ) where
   unfolding flows_in
   flows_length = length_to (flow_in net) (count_in net)
 
-  pub flow_at : (a : ℕ) → a < count_in net → flow_at (net_in net) a ≡ flow_in net a
+  pub flow_at_lem : (a : ℕ) → a < count_in net → flow_at (net_in net) a ≡ flow_in net a
   unfolding flows_in
-  flow_at a h = at_to (flow_in net) (count_in net) a no_flow h
+  flow_at_lem a h = at_to (flow_in net) (count_in net) a no_flow h

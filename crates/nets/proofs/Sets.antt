@@ -20,13 +20,13 @@ pub flow_here_lem : (N : Net) (a : ℕ) → a < length N.flows → Memᴰ (flow_
 flow_here_lem N a h = member_at N.flows a no_flow h
 
 module _ (net : List ℕ) where
-  pub flow_in : (a : ℕ) → a < count_in net → Memᴰ (flow_in net a) (flows_in net)
+  pub flow_in_lem : (a : ℕ) → a < count_in net → Memᴰ (flow_in net a) (flows_in net)
   unfolding flows_in
-  flow_in a h = listed_member (flow_in net) (count_in net) a h
+  flow_in_lem a h = listed_member (flow_in net) (count_in net) a h
 
   -- no node is twice on a path of a valid set
   pub distinct_in : Valid (net_in net) → (a : ℕ) → a < count_in net → Distinct (path_in net a)
-  distinct_in v a h = (v.flows (flow_in net a) (flow_in a h)).distinct
+  distinct_in v a h = (v.flows (flow_in net a) (flow_in_lem a h)).distinct
 
 -- where numbers rise, one number is one place, and one flow
 pub one_place : (l : List Flow) → RisingNumbers l → (a b : ℕ) → a < length l → b < length l →
@@ -38,6 +38,7 @@ one_place (i ∷ l) r (suc a) zero p q e = absurd (omega (arith, r.0 (get_or l a
 one_place (i ∷ l) r (suc a) (suc b) p q e = ap suc (one_place l r.1 a b (omega arith) (omega arith) e)
 
 pub one-flow : (l : List Flow) → RisingNumbers l → (i j : Flow) → Memᴰ i l → Memᴰ j l → i.number ≡ j.number → i ≡ j
+one-flow [] r i j x4 _ e = elim x4 [ ]
 one-flow (k ∷ l) r i j (Memᴰ.head p) (Memᴰ.head q) e = p ∙ sym q
 one-flow (k ∷ l) r i j (Memᴰ.head p) (Memᴰ.tail q) e = absurd (omega (arith, ap (λ f. f.number) p, r.0 j q))
 one-flow (k ∷ l) r i j (Memᴰ.tail p) (Memᴰ.head q) e = absurd (omega (arith, ap (λ f. f.number) q, r.0 i p))

@@ -29,8 +29,8 @@ module _ (t : Table) (old : List ℕ) (r : Written) (new : List ℕ) (report : R
   pub write_answer : r ≡ report_written (length old) (length (lines_in report)) → r ≡ report_written (length old) (length (table_lines t))
   write_answer g = rw same at g
 
-  pub write_buffer : new ≡ report_after (lines_in report) old → new ≡ report_after (table_lines t) old
-  write_buffer g = rw same at g
+  pub write_buffer_lem : new ≡ report_after (lines_in report) old → new ≡ report_after (table_lines t) old
+  write_buffer_lem g = rw same at g
 
   pub write_promise : (InOrder report → ReportWritten report old r new) → Made t → TableReported t old r new
   write_promise w m = record {

@@ -15,7 +15,7 @@ use Rattle.rules.specs.Net.{Hop, Flow, Net}
 use Rattle.rules.specs.Formula.{Role, Own, Higher, Equal, Lower, both, role, lower}
 use Rattle.rules.specs.Valid.{Valid}
 use Rattle.nets.specs.Nets.{few, count_in, room_in, length_in, field_in, hop_in, path_in, flow_in, net_in, flow_at, node_at}
-use Rattle.nets.proofs.Reading.{path_length, path_at, flows_length, flow_at}
+use Rattle.nets.proofs.Reading.{path_length, path_at, flows_length, flow_at_lem}
 use Rattle.crossings.specs.Pairs.{place_on, side_number}
 use Rattle.terms.specs.Terms.{base_of}
 use Rattle.blocks.specs.Sheet.{Shaped}
@@ -23,7 +23,7 @@ use Rattle.frames.specs.Frames.{Entry, Listed, Grown, Roomy}
 use Rattle.entries.specs.Fields.{up_to, entry_of, counted, entriesTo}
 use Rattle.sheets.specs.Sheets.{SheetIs, from_on, Joined, Filled}
 use Rattle.entries.specs.Rows.{higherAt, equalAt, own_at}
-use Rattle.entries.proofs.Running.{upto_at, node_at, added_at, own_at, counted_own, counted_at, higher_at, equal_at}
+use Rattle.entries.proofs.Running.{upto_at, node_at, added_at, own_at_lem, counted_own, counted_at, higher_at, equal_at}
 use Rattle.frames.proofs.Frames.{frame_less, kept_grown, Heads, heads_frame}
 
 -- an entry from the first place shared on
@@ -51,7 +51,7 @@ heads_filled net r a one H end = record {
     base =
         (H.heads k (omega arith) h).base v
         ∙ ap (λ (q : Hop). base_of (net_in net) (flow_in net a) (take (k + 1) (path_in net a)) q.node) (sym (path_at net a k h))
-        ∙ ap (λ (i : Flow). base_of (net_in net) i (up_to i k) (node_at i k)) (sym (flow_at net a one));
+        ∙ ap (λ (i : Flow). base_of (net_in net) i (up_to i k) (node_at i k)) (sym (flow_at_lem net a one));
     added = (H.heads k (omega arith) h).added v ∙ added_at net v a one k h;
     entries = record { count = (H.heads k (omega arith) h).none; each = λ q g. absurd (omega arith) };
   };
@@ -115,7 +115,7 @@ module _ {net : List ℕ} {r : ℕ → ℕ} {a b : ℕ} {e : List ℕ} (one : a 
       Grown (Valid N) (count_in net) (length_in net a) (λ p. own_at net a p ∷ []) e e' → Filled net r a (b + 1) e'
   filled_own own G =
       filled_more (λ p. own_at net a p ∷ []) G
-      (λ v p h. rw (counted_own net v a b one other r p h own (room_in net) (hop_in net a p).node) (ap (λ z. z ∷ []) (sym (own_at net v a b one other r p h own))))
+      (λ v p h. rw (counted_own net v a b one other r p h own (room_in net) (hop_in net a p).node) (ap (λ z. z ∷ []) (sym (own_at_lem net v a b one other r p h own))))
 
   -- of a flow that is neither a nor lower
   filled-joined : (x : ℕ → ℕ → Entry) → both (not (lower (role (flow_in net a) (flow_in net b)))) true ≡ true →
@@ -148,7 +148,7 @@ module _ {net : List ℕ} {r : ℕ → ℕ} {a b : ℕ} {e : List ℕ} (one : a 
   filled_lower low =
       filled_more (λ p. [])
       (record { frame = F.frame; blocks = λ p h. kept_grown (count_in net) p e e (λ i g. refl) (omega (arith, F.few p h)) })
-      (λ v p h. rw (flow_at net a one, flow_at net b other, low))
+      (λ v p h. rw (flow_at_lem net a one, flow_at_lem net b other, low))
 
 -- the whole sheet
 module _ {net : List ℕ} {r : ℕ → ℕ} {a b : ℕ} {e : List ℕ} (one : a < count_in net) (all : b ≡ count_in net) (F : Filled net r a b e) where
@@ -163,7 +163,7 @@ module _ {net : List ℕ} {r : ℕ → ℕ} {a b : ℕ} {e : List ℕ} (one : a 
   }
     where
       on : (p : ℕ) → p < length (flow_at (net_in net) a).path → p < length_in net a
-      on p h = omega (arith, ap (λ (i : Flow). length i.path) (flow_at net a one), path_length net a)
+      on p h = omega (arith, ap (λ (i : Flow). length i.path) (flow_at_lem net a one), path_length net a)
 
   pub filled_shaped : length e ≤ 16777216 → Shaped e (length_in net a)
   filled_shaped short = record {
