@@ -1,6 +1,6 @@
 -- `rounds::near` meets its contract.
 use native.Mathlib.Omega.{arith}
-use Rattle.rounds.proofs.Looks.{near_wide, near_middle, near_first}
+use Rattle.rounds.proofs.Windows.{near_wide, near_middle, near_first}
 use Rattle.rounds.proofs.near.Statement.{statement}
 use Rattle.rounds.proofs.near.Tie as tie
 

@@ -2,7 +2,7 @@
 use native.Mathlib.Nat.{div-le_self}
 use native.Mathlib.Omega.{arith}
 use borrow.Author.Rules.{rules}
-use Rattle.rounds.proofs.Looks.{reach_last, reach_few, reach_near, reach-most}
+use Rattle.rounds.proofs.Windows.{reach_last, reach_few, reach_near, reach-most}
 use Rattle.rounds.proofs.reach.Statement.{statement}
 use Rattle.rounds.proofs.reach.Tie as tie
 

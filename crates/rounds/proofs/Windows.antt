@@ -1,14 +1,10 @@
--- How far a turn looks: the ways of the functions, and that the last turn looks over all; as many marks are left. Assumes nothing.
-use mathlib.Core.Path.{◌≡◌, refl, ap, ◌∙◌}
-use mathlib.Core.Bool.{Bool, true, false}
-use mathlib.Core.List.{List}
+-- How far a turn looks: the ways of the functions, and that the last turn looks over all. Assumes nothing.
+use mathlib.Core.Path.{◌≡◌}
 use Prim.Native.Nat.{ℕ, ◌+◌, ◌*◌, ◌/◌, ◌≤◌, ◌<◌}
 use native.Mathlib.Omega.{arith}
 use native.Mathlib.Nat.{div-le_self, mul-le-mul}
-use lib.Dec.{eqb}
-use lib.ListN.{length, length-set}
-use borrow.Author.Tests.{le-leb, lt-leb, eq-eqb, ne_eqb, eqb-true, eqb-false}
-use Rattle.rounds.specs.Looks.{few_steps, near_steps, reach_in, PutBack}
+use borrow.Author.Tests.{le-leb, lt-leb, eq-eqb, ne_eqb}
+use Rattle.rounds.specs.Windows.{few_steps, near_steps, reach_in}
 
 module _ (turns : ℕ) where
   pub near_wide : turns ≡ 2 → 1024 ≡ near_steps turns
@@ -33,11 +29,3 @@ module _ (turns steps busy : ℕ) where
 
 pub reach-most : (near busy steps : ℕ) → near ≤ 1024 → busy ≤ 65536 → near * (1 + busy / steps) ≤ 1024 * 65537
 reach-most near busy steps h g = mul-le-mul {n₁ = near} {m₁ = 1 + busy / steps} {n₂ = 1024} {m₂ = 65537} h (omega (arith, div-le_self busy steps))
-
-pub put_long : {net replies marks best : List ℕ} {a at m far busy : ℕ} {replies' marks' : List ℕ} → PutBack net replies marks best a at m far busy replies' marks' →
-    length marks' ≡ length marks
-put_long {marks} {a} {marks'} put = go (eqb put.rose 0) refl
-  where
-    go : (x : Bool) → eqb put.rose 0 ≡ x → length marks' ≡ length marks
-    go true e = ap length (put.still (eqb-true put.rose 0 e)) ∙ length-set marks a put.turns
-    go false e = let r = put.risen (eqb-false put.rose 0 e) in r.3.others.long ∙ r.2.long ∙ length-set marks a put.turns
