@@ -25,13 +25,12 @@ pub bounds-sheet-at-in-loop-p-2 : goal.bounds-sheet-at-in-loop-p-2
 bounds-sheet-at-in-loop-p-2 c = let f = fits (goal.at.bounds-sheet-at-in-loop-p-2 c).After-block-at in simp length-set (omega arith)
 
 pub loop-p-preserved : goal.loop-p-preserved
-loop-p-preserved c =
-    (
-      omega arith,
-      simp length-set (c.loop-p.invariant.1 ∙ simp length-set),
-      heads_more c.block-at.result c.base.result (c.cost.result + c.jitter.result) c.loop-p.invariant.2 (omega arith) c.block-at.ensures.value (omega arith)
-          (omega arith) c.base.ensures.value (λ v. omega arith),
-    )
+loop-p-preserved c = (
+  omega arith,
+  simp length-set (c.loop-p.invariant.1 ∙ simp length-set),
+  heads_more c.block-at.result c.base.result (c.cost.result + c.jitter.result) c.loop-p.invariant.2 (omega arith) c.block-at.ensures.value (omega arith)
+      (omega arith) c.base.ensures.value (λ v. omega arith),
+)
 
 pub shape_of-sheet : goal.shape_of-sheet
 shape_of-sheet c = c.loop-p.invariant.1 ∙ simp length-set

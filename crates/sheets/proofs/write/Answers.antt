@@ -1,5 +1,4 @@
 use mathlib.Core.Path.{refl, ◌∙◌}
-use Prim.Native.Nat.{◌-◌}
 use native.Mathlib.Omega.{arith}
 use Rattle.least.specs.Lists.{values}
 use Rattle.sheets.proofs.Writing.{filled_sheet, filled_shaped}

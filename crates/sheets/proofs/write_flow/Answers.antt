@@ -37,5 +37,8 @@ returns-then-side-eq-EQUAL c =
 
 pub returns-else-side-eq-EQUAL : goal.returns-else-side-eq-EQUAL
 returns-else-side-eq-EQUAL c =
-    record { filled = filled_lower c.requires.0.noted.one c.requires.0.noted.other c.requires.1
-          (lower_side _ (λ q. c.if-side-eq-OWN.false (c.side-side.ensures.value ∙ q)) (λ q. c.if-side-eq-HIGHER.false (c.side-side.ensures.value ∙ q)) (λ q. c.if-side-eq-EQUAL.false (c.side-side.ensures.value ∙ q))); sheet_len_unchanged = refl }
+    record {
+      filled = filled_lower c.requires.0.noted.one c.requires.0.noted.other c.requires.1
+          (lower_side _ (λ q. c.if-side-eq-OWN.false (c.side-side.ensures.value ∙ q)) (λ q. c.if-side-eq-HIGHER.false (c.side-side.ensures.value ∙ q)) (λ q. c.if-side-eq-EQUAL.false (c.side-side.ensures.value ∙ q)));
+      sheet_len_unchanged = refl;
+    }

@@ -1,5 +1,5 @@
 use mathlib.Core.Path.{◌≡◌, refl, sym, ◌∙◌}
-use Prim.Native.Nat.{suc, ◌+◌, ◌-◌, ◌<◌}
+use Prim.Native.Nat.{suc, ◌+◌, ◌<◌}
 use native.Mathlib.Omega.{arith}
 use Rattle.least.specs.Lists.{values}
 use Rattle.least.proofs.Ranges.{max_to_next}
@@ -20,7 +20,7 @@ inside c = omega arith
 next : (c : After-later-last) →
     (c.later-last.result ≡ last_to c.args.net.now c.args.a c.args.b (suc c.loop-p.p)) × Shared c.args.net.now c.args.a c.args.b c.first-first.result (last_to c.args.net.now c.args.a c.args.b) (c.loop-p.p + 1) c.later-last.result
 next c =
-    last_more c.args.net.now c.args.a c.args.b c.first-first.result c.first-first.ensures c.loop-p.invariant.0 (inside c.before) c.loop-p.invariant.5 c.later-last.ensures
+    last_more c.args.net.now c.args.a c.args.b c.first-first.result c.first-first.ensures c.loop-p.invariant.0 (omega arith) c.loop-p.invariant.5 c.later-last.ensures
 
 pub returns-then-m-first : goal.returns-then-m-first
 returns-then-m-first c =
@@ -28,16 +28,15 @@ returns-then-m-first c =
     record { joined = record { place = c.first-first.result; first = c.first-first.ensures; grown = g }; sheet_len_unchanged = refl }
 
 pub loop-p-init : goal.loop-p-init
-loop-p-init c =
-    (
-      omega arith,
-      omega arith,
-      refl,
-      omega arith,
-      sym (weight_none c.args.net.now c.args.a c.args.b c.first-first.result c.first-first.ensures c.first-first.result (omega arith)),
-      shared_first c.args.net.now c.args.a c.args.b c.first-first.result c.first-first.ensures (last_to c.args.net.now c.args.a c.args.b) (omega arith),
-      going_from c.requires.1 c.first-first.result (λ k h. from_none c.first-first.result (higher_at c.args.net.now c.args.a c.args.b (values c.args.replies.now) c.first-first.result) k h),
-    )
+loop-p-init c = (
+  omega arith,
+  omega arith,
+  refl,
+  omega arith,
+  sym (weight_none c.args.net.now c.args.a c.args.b c.first-first.result c.first-first.ensures c.first-first.result (omega arith)),
+  shared_first c.args.net.now c.args.a c.args.b c.first-first.result c.first-first.ensures (last_to c.args.net.now c.args.a c.args.b) (omega arith),
+  going_from c.requires.1 c.first-first.result (λ k h. from_none c.first-first.result (higher_at c.args.net.now c.args.a c.args.b (values c.args.replies.now) c.first-first.result) k h),
+)
 
 pub later-last-requires : goal.later-last-requires
 later-last-requires c = (c.requires.0.noted, inside (goal.at.later-last-requires c).In-loop-p)
@@ -55,8 +54,7 @@ look_at-requires c = (omega (arith, (next (goal.at.look_at-requires c).After-lat
 
 pub append-requires : goal.append-requires
 append-requires c =
-    let i = inside (goal.at.append-requires c).In-loop-p in
-    (
+    let i = inside (goal.at.append-requires c).In-loop-p in (
       c.requires.0.noted.all.whole,
       omega arith,
       frame_less c.loop-p.p i c.loop-p.invariant.6.frame,
