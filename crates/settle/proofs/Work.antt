@@ -147,8 +147,8 @@ module _ {net busies replies marks : List ℕ} {a : ℕ} {sheet : List ℕ} {m f
   short b = omega arith
 
   module _ (val : Valid N) (ready : (i : Flow) → Here N i → Ready N i) (busy : BusiesAre net busies) where
-    its-busy : values busies a ≡ busy_length N (flow_at N a)
-    its-busy = busy a ran.on ∙ ap (busy_length N) (sym (flow_at_lem net a ran.on))
+    its_busy : values busies a ≡ busy_length N (flow_at N a)
+    its_busy = busy a ran.on ∙ ap (busy_length N) (sym (flow_at_lem net a ran.on))
 
     its-look : LookIs sheet (length (flow_at N a).path) far (values busies a) best₀ past best
     its-look = subst (λ c. LookIs sheet c far (values busies a) best₀ past best) (ran.long ∙ sym (path_long net a ran.on)) ran.look
@@ -156,27 +156,27 @@ module _ {net busies replies marks : List ℕ} {a : ℕ} {sheet : List ℕ} {m f
     its-ready : Ready N (flow_at N a)
     its-ready = ready (flow_at N a) (flow_here_lem N a (here a ran.on))
 
-    its-starts : StartsOf sheet (length (flow_at N a).path) (times N val w (values replies) a (here a ran.on) sheet (ran.written val))
-    its-starts = starts N val w (values replies) a (here a ran.on) sheet (ran.written val) its-ready
+    its_starts : StartsOf sheet (length (flow_at N a).path) (times N val w (values replies) a (here a ran.on) sheet (ran.written val))
+    its_starts = starts N val w (values replies) a (here a ran.on) sheet (ran.written val) its-ready
 
     module _ (good : Good N w replies marks) (clear : past ≡ false) (k : ℕ) (h : k < length (flow_at N a).path) where
       best-below : values best k ≤ due N w replies a k
       best-below =
-          its-look.below clear _ its-starts k h (due N w replies a k)
+          its-look.below clear _ its_starts k h (due N w replies a k)
           (replies_below N val w (values replies) a (here a ran.on) sheet (ran.written val) its-ready k h)
           (omega (arith, ran.held k (omega (arith, ran.long, path_long net a ran.on)), good.up a k (here a ran.on) h))
 
       best-is : values busies a ≤ far → due N w replies a k ≤ values best k
       best-is full = omega (
         arith,
-        its-look.all clear full _ its-starts k h,
-        ap (best_to (reply_at sheet (times N val w (values replies) a (here a ran.on) sheet (ran.written val)) k)) its-busy,
+        its-look.all clear full _ its_starts k h,
+        ap (best_to (reply_at sheet (times N val w (values replies) a (here a ran.on) sheet (ran.written val)) k)) its_busy,
         replies_best N val w (values replies) a (here a ran.on) sheet (ran.written val) its-ready k h,
       )
 
     past_is : past ≡ true → (k : ℕ) × (k < length (flow_at N a).path) × (horizon < due N w replies a k)
     past_is e =
-        let q = its-look.over e _ its-starts in
+        let q = its-look.over e _ its_starts in
         replies_past N val w (values replies) a (here a ran.on) sheet (ran.written val) its-ready q.0 q.1
 
   pub turn_past : past ≡ true → TurnIs net busies replies marks a true replies marks
@@ -198,8 +198,8 @@ module _ {net busies replies marks : List ℕ} {a : ℕ} {sheet : List ℕ} {m f
         some h true e g = absurd (omega (arith, put.lowered.less h (eqb-true put.rose 0 e)))
         some h false e g = absurd (omega (arith, put.lowered.anew h (eqb-false put.rose 0 e)))
 
-    few-turns : put.turns ≤ fresh_mark
-    few-turns = elim (le_or-lt (values busies a) far) [
+    few_turns : put.turns ≤ fresh_mark
+    few_turns = elim (le_or-lt (values busies a) far) [
       | inl h ↦ omega (arith, put.lowered.none h)
       | inr h ↦ some h (eqb put.rose 0) refl
     ]
@@ -227,7 +227,7 @@ module _ {net busies replies marks : List ℕ} {a : ℕ} {sheet : List ℕ} {m f
                 | inr c ↦ inr c
               ]);
         },
-        record { low = fair.low; bare = fair.bare; flags = turned-flags turned few-turns fair.flags },
+        record { low = fair.low; bare = fair.bare; flags = turned-flags turned few_turns fair.flags },
       )
         where
           fewer : (values marks a ≡ 0 → ⊥) → put.turns < values marks a
@@ -251,10 +251,10 @@ module _ {net busies replies marks : List ℕ} {a : ℕ} {sheet : List ℕ} {m f
           where
             go : (t : Bool) → reads_flow net b a ≡ t → values marks' b ≤ fresh_mark
             go true e = omega (arith, marked.read b h e)
-            go false e = omega (arith, marked.unread b h e, turned-flags turned few-turns fair.flags b h)
+            go false e = omega (arith, marked.unread b h e, turned-flags turned few_turns fair.flags b h)
 
-        raised-fair : Fair net replies' marks'
-        raised-fair = record {
+        raised_fair : Fair net replies' marks'
+        raised_fair = record {
           low = put.raised.low;
           bare = λ b k hk q. unraised b k hk (behind b k q) ∙ fair.bare b k hk q;
           flags = flags;
@@ -264,8 +264,8 @@ module _ {net busies replies marks : List ℕ} {a : ℕ} {sheet : List ℕ} {m f
             behind b k (inl h) e = absurd (omega (arith, ran.on))
             behind b k (inr h) e = omega (arith, ran.long, ap (length_in net) e)
 
-        turn-raised : (put.rose ≡ 0 → ⊥) → TurnIs net busies replies marks a false replies' marks'
-        turn-raised z = record {
+        turn_raised : (put.rose ≡ 0 → ⊥) → TurnIs net busies replies marks a false replies' marks'
+        turn_raised z = record {
           falls = λ e q.
               fewer_below _ _ (count_in net * fresh_mark) _ _ below (sum_to-bound (count_in net) (values marks') fresh_mark flags);
           keeps = λ val ready busy good.
@@ -319,4 +319,4 @@ module _ {net busies replies marks : List ℕ} {a : ℕ} {sheet : List ℕ} {m f
             let z = eqb-false put.rose 0 e in
             let r = put.risen z in
             let k = turned_behind (omega arith) r.2 ran.on turned in
-            (turn-raised k r.3 z, raised-fair k r.3)
+            (turn_raised k r.3 z, raised_fair k r.3)

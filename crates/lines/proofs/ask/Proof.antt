@@ -38,7 +38,7 @@ loop-less : tie.Need-loop-smaller invariant-loop decreases-loop
 loop-less c = search rules
 
 loop-again : tie.Need-loop-preserved invariant-loop decreases-loop
-loop-again c = let a = c.before.before.before.before in (search rules, ask_more _ (search (length_of-map, a.before.before.well-formed)) _ _ _ a.before.size.ensures.0 a.loop.invariant.1 _ (search rules) c.if1.false)
+loop-again c = let a = c.before.before.before.before in (search rules, ask_more _ (search (length_of-map, a.before.before.well_formed)) _ _ _ a.before.size.ensures.0 a.loop.invariant.1 _ (search rules) c.if1.false)
 
 refuse-requires : tie.Need-refuse-requires invariant-loop decreases-loop
 refuse-requires c κs = search rules

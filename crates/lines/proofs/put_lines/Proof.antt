@@ -44,7 +44,7 @@ loop-less : tie.Need-loop-smaller invariant-loop decreases-loop
 loop-less c = search rules
 
 loop-again : tie.Need-loop-preserved invariant-loop decreases-loop
-loop-again c = let p = c.before.before in let a = p.before.before.before.before in let s = a.before.before in let l : length s.before.args.t2.lines ≡ most_flows = search (length_of-map, s.before.well-formed) in (search rules, puts_more s.before.args.buffer.now a.loop.buffer _ s.before.args.t2.lines a.loop.k _ (omega arith) (omega arith) a.loop.invariant.1 p.put-line.ensures, c.before.buffer.given ∙ a.loop.invariant.2)
+loop-again c = let p = c.before.before in let a = p.before.before.before.before in let s = a.before.before in let l : length s.before.args.t2.lines ≡ most_flows = search (length_of-map, s.before.well_formed) in (search rules, puts_more s.before.args.buffer.now a.loop.buffer _ s.before.args.t2.lines a.loop.k _ (omega arith) (omega arith) a.loop.invariant.1 p.put-line.ensures, c.before.buffer.given ∙ a.loop.invariant.2)
 
 same_length : tie.Need-same-length invariant-loop decreases-loop
 same_length c = search rules

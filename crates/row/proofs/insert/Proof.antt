@@ -29,7 +29,7 @@ copy-requires-2 : tie.Need-copy-requires-2
 copy-requires-2 c κs = omega (arith, append_count _ _ _ c.append.ensures (omega arith))
 
 returns-2 : tie.Need-returns-2
-returns-2 c = let a = c.before.before.before in let s = a.before.before.before in insert_made s.before.args.row (search (length_of-map, s.before.well-formed)) _ s.size.ensures.0 _ a.before.rank.ensures.0 _ _ a.none.ensures.1 c.before.before.copy.ensures.1 s.before.args.f _ _ (search rules) a.before.rank.ensures.1 (omega arith) c.before.append.ensures c.copy2.ensures.1
+returns-2 c = let a = c.before.before.before in let s = a.before.before.before in insert_made s.before.args.row (search (length_of-map, s.before.well_formed)) _ s.size.ensures.0 _ a.before.rank.ensures.0 _ _ a.none.ensures.1 c.before.before.copy.ensures.1 s.before.args.f _ _ (search rules) a.before.rank.ensures.1 (omega arith) c.before.append.ensures c.copy2.ensures.1
 
 pub insert-spec : {M : Type 1} → statement M
 insert-spec =

@@ -38,7 +38,7 @@ loop-less : tie.Need-loop-smaller invariant-loop decreases-loop
 loop-less c = search rules
 
 loop-again : tie.Need-loop-preserved invariant-loop decreases-loop
-loop-again c = let a = c.before.before.before.before in (search rules, rank_more _ _ _ _ _ (search (length_of-map, a.before.before.well-formed)) a.before.size.ensures.0 a.loop.invariant.1 (search rules) c.if1.false)
+loop-again c = let a = c.before.before.before.before in (search rules, rank_more _ _ _ _ _ (search (length_of-map, a.before.before.well_formed)) a.before.size.ensures.0 a.loop.invariant.1 (search rules) c.if1.false)
 
 returns-2 : tie.Need-returns-2 invariant-loop decreases-loop
 returns-2 c = (search rules, search search_end)

@@ -24,7 +24,7 @@ copy-requires-2 : tie.Need-copy-requires-2
 copy-requires-2 c κs = search rules
 
 returns : tie.Need-returns
-returns c = let a = c.before.before in let s = a.before.before in remove_made s.before.args.row (search (length_of-map, s.before.well-formed)) _ s.size.ensures.0 _ a.before.place.ensures.0 _ _ a.none.ensures.1 c.before.copy.ensures.1 _ _ a.before.place.ensures.1 c.copy2.ensures.1
+returns c = let a = c.before.before in let s = a.before.before in remove_made s.before.args.row (search (length_of-map, s.before.well_formed)) _ s.size.ensures.0 _ a.before.place.ensures.0 _ _ a.none.ensures.1 c.before.copy.ensures.1 _ _ a.before.place.ensures.1 c.copy2.ensures.1
 
 pub remove-spec : {M : Type 1} → statement M
 remove-spec =

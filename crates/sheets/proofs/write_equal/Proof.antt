@@ -9,7 +9,7 @@ use Rattle.least.proofs.Ranges.{max_to_next}
 use Rattle.rules.specs.Valid.{Valid}
 use Rattle.nets.specs.Nets.{count_in, length_in, net_in}
 use Rattle.crossings.specs.Pairs.{cost_on}
-use Rattle.entries.specs.Rows.{nearTo, weightTo, equalAt}
+use Rattle.entries.specs.Rows.{near_to, weight_to, equal_at}
 use Rattle.sheets.specs.Sheets.{from_on}
 use Rattle.frames.proofs.Frames.{frame_less, Going, going_from, going_end, going_room, going_more}
 use Rattle.entries.proofs.Rows.{Shared, shared_first, near_more, weight_none, equal_made}
@@ -19,8 +19,8 @@ use Rattle.sheets.proofs.write_equal.Tie as tie
 
 abbrev invariant-loop : tie.invariant-loop
 invariant-loop net pairs ways replies sheet₀ a b m first plus way period g₀ weight₀ p₀ sheet g weight p =
-    (first ≤ p) × (p ≤ m) × (length sheet ≡ length sheet₀) × (weight ≤ 65535) × (weight ≡ weightTo net a b p) × Shared net a b first (nearTo net a b) p g
-    × Going (Valid (net_in net)) (count_in net) (length_in net a) (from_on first (equalAt net a b (values replies) first)) sheet₀ sheet p
+    (first ≤ p) × (p ≤ m) × (length sheet ≡ length sheet₀) × (weight ≤ 65535) × (weight ≡ weight_to net a b p) × Shared net a b first (near_to net a b) p g
+    × Going (Valid (net_in net)) (count_in net) (length_in net a) (from_on first (equal_at net a b (values replies) first)) sheet₀ sheet p
 
 abbrev decreases-loop : tie.decreases-loop
 decreases-loop net pairs ways replies sheet₀ a b m first plus way period g₀ weight₀ p₀ sheet g weight p = m - p
@@ -37,7 +37,7 @@ next : (c : tie.After-nearer invariant-loop decreases-loop) →
     let b = s.args.b in
     let f = c.before.before.before.before.before.before.before.before.first.result in
     let p = c.before.before.loop.p in
-    (c.nearer.result ≡ nearTo net a b (suc p)) × Shared net a b f (nearTo net a b) (p + 1) c.nearer.result
+    (c.nearer.result ≡ near_to net a b (suc p)) × Shared net a b f (near_to net a b) (p + 1) c.nearer.result
 next c =
     let s = c.before.before.before.before.before.before.before.before.before.before.before.before.before.before.before in
     let l = c.before.before.loop in
@@ -57,7 +57,7 @@ returns c =
     let a = s.args.a in
     let b = s.args.b in
     let f = c.before.first.result in
-    let g = going_end (omega arith) (going_from s.requires.1 f (λ k h. from_none f (equalAt net a b (values s.args.replies.now) f) k h)) in
+    let g = going_end (omega arith) (going_from s.requires.1 f (λ k h. from_none f (equal_at net a b (values s.args.replies.now) f) k h)) in
     (record { place = f; first = c.before.first.ensures; grown = g }, refl)
 
 delay-requires : tie.Need-delay-requires invariant-loop decreases-loop
@@ -88,8 +88,8 @@ loop-holds c =
       refl,
       omega arith,
       sym (weight_none net a b f d f (omega arith)),
-      shared_first net a b f d (nearTo net a b) (omega arith),
-      going_from s.requires.1 f (λ k h. from_none f (equalAt net a b (values s.args.replies.now) f) k h),
+      shared_first net a b f d (near_to net a b) (omega arith),
+      going_from s.requires.1 f (λ k h. from_none f (equal_at net a b (values s.args.replies.now) f) k h),
     )
 
 nearer-requires : tie.Need-nearer-requires invariant-loop decreases-loop
@@ -169,7 +169,7 @@ loop-again c =
       c.before.before.before.before.before.before.heavier.ensures.1,
       w,
       n.1,
-      going_more s.requires.1 i l.loop.invariant.6 (from_one f (equalAt net a b r f) p l.loop.invariant.0) more.ensures.0 more.ensures.1
+      going_more s.requires.1 i l.loop.invariant.6 (from_one f (equal_at net a b r f) p l.loop.invariant.0) more.ensures.0 more.ensures.1
           (omega arith) (λ v.
           equal_made net a b r f p plus.ensures.0 (smin.ensures.0 v) t.ensures.0 w n.0 l.before.before.before.jitter.ensures.0 (way.ensures.0 v)
           c.before.before.before.before.arrival.ensures.0),

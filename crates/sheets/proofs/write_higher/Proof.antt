@@ -9,7 +9,7 @@ use Rattle.least.proofs.Ranges.{max_to_next}
 use Rattle.rules.specs.Valid.{Valid}
 use Rattle.nets.specs.Nets.{count_in, length_in, net_in}
 use Rattle.crossings.specs.Pairs.{cost_on}
-use Rattle.entries.specs.Rows.{last_to, weightTo, higherAt}
+use Rattle.entries.specs.Rows.{last_to, weight_to, higher_at}
 use Rattle.entries.proofs.Running.{last_below}
 use Rattle.sheets.specs.Sheets.{from_on}
 use Rattle.frames.proofs.Frames.{frame_less, Going, going_from, going_end, going_room, going_more}
@@ -20,8 +20,8 @@ use Rattle.sheets.proofs.write_higher.Tie as tie
 
 abbrev invariant-loop : tie.invariant-loop
 invariant-loop net pairs ways replies sheet₀ a b m first plus way period last₀ weight₀ p₀ sheet last weight p =
-    (first ≤ p) × (p ≤ m) × (length sheet ≡ length sheet₀) × (weight ≤ 65535) × (weight ≡ weightTo net a b p) × Shared net a b first (last_to net a b) p last
-    × Going (Valid (net_in net)) (count_in net) (length_in net a) (from_on first (higherAt net a b (values replies) first)) sheet₀ sheet p
+    (first ≤ p) × (p ≤ m) × (length sheet ≡ length sheet₀) × (weight ≤ 65535) × (weight ≡ weight_to net a b p) × Shared net a b first (last_to net a b) p last
+    × Going (Valid (net_in net)) (count_in net) (length_in net a) (from_on first (higher_at net a b (values replies) first)) sheet₀ sheet p
 
 abbrev decreases-loop : tie.decreases-loop
 decreases-loop net pairs ways replies sheet₀ a b m first plus way period last₀ weight₀ p₀ sheet last weight p = m - p
@@ -58,7 +58,7 @@ returns c =
     let a = s.args.a in
     let b = s.args.b in
     let f = c.before.first.result in
-    let g = going_end (omega arith) (going_from s.requires.1 f (λ k h. from_none f (higherAt net a b (values s.args.replies.now) f) k h)) in
+    let g = going_end (omega arith) (going_from s.requires.1 f (λ k h. from_none f (higher_at net a b (values s.args.replies.now) f) k h)) in
     (record { place = f; first = c.before.first.ensures; grown = g }, refl)
 
 delay-requires : tie.Need-delay-requires invariant-loop decreases-loop
@@ -84,7 +84,7 @@ loop-holds c =
       omega arith,
       sym (weight_none net a b f d f (omega arith)),
       shared_first net a b f d (last_to net a b) (omega arith),
-      going_from s.requires.1 f (λ k h. from_none f (higherAt net a b (values s.args.replies.now) f) k h),
+      going_from s.requires.1 f (λ k h. from_none f (higher_at net a b (values s.args.replies.now) f) k h),
     )
 
 later-requires : tie.Need-later-requires invariant-loop decreases-loop
@@ -159,7 +159,7 @@ loop-again c =
       c.before.before.before.before.before.before.heavier.ensures.1,
       w,
       n.1,
-      going_more s.requires.1 i l.loop.invariant.6 (from_one f (higherAt net a b r f) p l.loop.invariant.0) more.ensures.0 more.ensures.1
+      going_more s.requires.1 i l.loop.invariant.6 (from_one f (higher_at net a b r f) p l.loop.invariant.0) more.ensures.0 more.ensures.1
           c.before.before.before.look_at.ensures.1 (λ v.
           higher_made net a b r f p plus.ensures.0 (smin.ensures.0 v) t.ensures.0 w n.0 c.before.before.before.look_at.ensures.0 (way.ensures.0 v)),
     )

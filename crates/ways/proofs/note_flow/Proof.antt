@@ -6,7 +6,7 @@ use lib.ListN.{length, length-set}
 use borrow.Author.Rules.{rules}
 use Rattle.nets.specs.Nets.{length_in}
 use Rattle.least.specs.Fold.{sum_to}
-use Rattle.terms.specs.Whole.{sminOver, wayOver, term5Over}
+use Rattle.terms.specs.Whole.{smin_over, way_over, term5_over}
 use Rattle.ways.proofs.Noted.{there}
 use Rattle.ways.proofs.Noting.{smin_more, way_more, term5_more, going_start, going_more, going_end, Going}
 use Rattle.ways.proofs.note_flow.Statement.{statement}
@@ -17,11 +17,11 @@ invariant-loop net pairs ways₀ a m smin₀ way₀ term5₀ k₀ ways smin way 
     Going net ways₀ ways a k
     × (k ≤ m)
     × (smin ≤ 131070 * k)
-    × (smin ≡ sminOver net a k)
+    × (smin ≡ smin_over net a k)
     × (way ≤ 131070 * k)
-    × (way ≡ wayOver net a k)
+    × (way ≡ way_over net a k)
     × (term5 ≤ 65535 * k)
-    × (term5 ≡ term5Over net a k)
+    × (term5 ≡ term5_over net a k)
 
 abbrev decreases-loop : tie.decreases-loop
 decreases-loop net pairs ways₀ a m smin₀ way₀ term5₀ k₀ ways smin way term5 k = m - k
@@ -37,7 +37,7 @@ hops-requires : tie.Need-hops-requires invariant-loop decreases-loop
 hops-requires c κs = search rules
 
 loop-holds : tie.Need-loop-init invariant-loop decreases-loop
-unfolding sum_to sminOver wayOver term5Over
+unfolding sum_to smin_over way_over term5_over
 loop-holds c = (going_start _ _ _, search rules, search rules, search rules, search rules, search rules, search rules, search rules)
 
 way-at-requires : tie.Need-way-at-requires invariant-loop decreases-loop
