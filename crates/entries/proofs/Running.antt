@@ -167,14 +167,14 @@ module _ (net : List ℕ) (val : Valid (net_in net)) (a : ℕ) (one : a < count_
   pub upto_at : up_to (flow_at (net_in net) a) p ≡ take (p + 1) (path_in net a)
   upto_at = ap (λ (i : Flow). up_to i p) (flow_at_lem net a one)
 
-  pub node_at : node_at (flow_at (net_in net) a) p ≡ (hop_in net a p).node
-  node_at = ap (λ (i : Flow). node_at i p) (flow_at_lem net a one) ∙ ap (λ (q : Hop). q.node) (path_at net a p on)
+  pub node_at_lem : node_at (flow_at (net_in net) a) p ≡ (hop_in net a p).node
+  node_at_lem = ap (λ (i : Flow). node_at i p) (flow_at_lem net a one) ∙ ap (λ (q : Hop). q.node) (path_at net a p on)
 
   pub added_at : (hop_in net a p).cost + field_in net a 3 ≡ added_of (flow_at (net_in net) a) (node_at (flow_at (net_in net) a) p)
   unfolding added_of
   added_at =
       ap (λ c. c + field_in net a 3) (sym (own_cost net a (distinct_in net val a one) p on))
-      ∙ ap₂ (λ (i : Flow) h. cost_at i.path h + i.jitter) (sym (flow_at_lem net a one)) (sym node_at)
+      ∙ ap₂ (λ (i : Flow) h. cost_at i.path h + i.jitter) (sym (flow_at_lem net a one)) (sym node_at_lem)
 
 -- the entry of b at place p of a's path
 module _ (net : List ℕ) (val : Valid (net_in net)) (a b : ℕ) (one : a < count_in net) (other : b < count_in net) (r : ℕ → ℕ) (p : ℕ)
@@ -238,9 +238,9 @@ module _ (net : List ℕ) (val : Valid (net_in net)) (a b : ℕ) (one : a < coun
       unfolding place_on
       smin-at k = smin_to_lem N (flow_in net b) (hop_in net a k).node
 
-      pub higher_at : role (flow_in net a) (flow_in net b) ≡ Higher → entry (role (flow_at N a) (flow_at N b)) ≡ higher_at net a b r f p
+      pub higher_at_lem : role (flow_in net a) (flow_in net b) ≡ Higher → entry (role (flow_at N a) (flow_at N b)) ≡ higher_at net a b r f p
       unfolding entry_of higher_at
-      higher_at e =
+      higher_at_lem e =
           ap entry (role-at ∙ e)
           ∙ rw (
             flow_at_lem net a one,
@@ -256,9 +256,9 @@ module _ (net : List ℕ) (val : Valid (net_in net)) (a b : ℕ) (one : a < coun
               let i : l < length_in net a = omega (arith, last_below net a b p) in
               ap₂ (λ t n. pick t here_slot (node_slot n)) (own_same net a distinct l p i on) (own_place net a distinct l i)
 
-      pub equal_at : role (flow_in net a) (flow_in net b) ≡ Equal → entry (role (flow_at N a) (flow_at N b)) ≡ equal_at net a b r f p
+      pub equal_at_lem : role (flow_in net a) (flow_in net b) ≡ Equal → entry (role (flow_at N a) (flow_at N b)) ≡ equal_at net a b r f p
       unfolding entry_of equal_at
-      equal_at e =
+      equal_at_lem e =
           ap entry (role-at ∙ e)
           ∙ rw (
             flow_at_lem net a one,

@@ -98,9 +98,9 @@ module _ (N : Net) (val : Valid N) (w : ℕ) (r : ℕ → ℕ) (a : ℕ) (here :
         sum_rising N i ready.sound S S (λ k. le_refl _) u u (le_refl u) h visited by_place (start N i S u) (λ l q. omega (arith, same_start l q)) s s (omega arith),
       )
 
-      start-at_p : Least (sums e u p (λ q. start N i S u (node_at i q))) (start N i S u h)
+      start_at_p : Least (sums e u p (λ q. start N i S u (node_at i q))) (start N i S u h)
       unfolding by_place
-      start-at_p =
+      start_at_p =
           least_ext (λ s. same_sum s ∙ sym (sums_are u (λ q. start N i S u (node_at i q)) s))
           (meant_starts N i ready.sound S (start N i S) (start_is N i ready S) u h visited)
 
@@ -110,7 +110,7 @@ module _ (N : Net) (val : Valid N) (w : ℕ) (r : ℕ → ℕ) (a : ℕ) (here :
 
   module _ (ready : Ready N i) where
     pub starts : StartsOf e m times
-    starts u p on = start-at_p p on ready u
+    starts u p on = start_at_p p on ready u
 
     module _ (p : ℕ) (on : p < m) where
       -- W + C − t is at most the response bound of the rules, whatever the instant

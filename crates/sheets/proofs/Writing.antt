@@ -23,7 +23,7 @@ use Rattle.frames.specs.Frames.{Entry, Listed, Grown, Roomy}
 use Rattle.entries.specs.Fields.{up_to, entry_of, counted, entries_to}
 use Rattle.sheets.specs.Sheets.{SheetIs, from_on, Joined, Filled}
 use Rattle.entries.specs.Rows.{higher_at, equal_at, own_at}
-use Rattle.entries.proofs.Running.{upto_at, node_at, added_at, own_at_lem, counted_own, counted_at, higher_at, equal_at}
+use Rattle.entries.proofs.Running.{upto_at, node_at_lem, added_at, own_at_lem, counted_own, counted_at, higher_at_lem, equal_at_lem}
 use Rattle.frames.proofs.Frames.{frame_less, kept_grown, Heads, heads_frame}
 
 -- an entry from the first place shared on
@@ -102,7 +102,7 @@ module _ {net : List ℕ} {r : ℕ → ℕ} {a b : ℕ} {e : List ℕ} (one : a 
     few = λ p h. omega (arith, (G.blocks p h).few, F.few p h);
     is = λ v p h.
         let z : x p ≡ new_of (up_to (flow_at N a) p) (node_at (flow_at N a) p) =
-        new v p h ∙ ap₂ new_of (sym (upto_at net v a one p h)) (sym (node_at net v a one p h)) in
+        new v p h ∙ ap₂ new_of (sym (upto_at net v a one p h)) (sym (node_at_lem net v a one p h)) in
         let E : List Entry = entries_to N (room_in net) r a (up_to (flow_at N a) p) (node_at (flow_at N a) p) b in
         record {
           base = (G.blocks p h).base ∙ (F.is v p h).base;
@@ -138,10 +138,10 @@ module _ {net : List ℕ} {r : ℕ → ℕ} {a b : ℕ} {e : List ℕ} (one : a 
       none false y = refl
 
   pub filled_higher : role (flow_in net a) (flow_in net b) ≡ Higher → {e' : List ℕ} → Joined net a b (higher_at net a b r) e e' → Filled net r a (b + 1) e'
-  filled_higher up J = filled_joined (higher_at net a b r) (rw up) (λ v f d p h q. higher_at net v a b one other r p h f d q up) J
+  filled_higher up J = filled_joined (higher_at net a b r) (rw up) (λ v f d p h q. higher_at_lem net v a b one other r p h f d q up) J
 
   pub filled_equal : role (flow_in net a) (flow_in net b) ≡ Equal → {e' : List ℕ} → Joined net a b (equal_at net a b r) e e' → Filled net r a (b + 1) e'
-  filled_equal same J = filled_joined (equal_at net a b r) (rw same) (λ v f d p h q. equal_at net v a b one other r p h f d q same) J
+  filled_equal same J = filled_joined (equal_at net a b r) (rw same) (λ v f d p h q. equal_at_lem net v a b one other r p h f d q same) J
 
   pub filled_lower : role (flow_in net a) (flow_in net b) ≡ Lower → Filled net r a (b + 1) e
   unfolding counted

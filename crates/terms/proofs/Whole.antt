@@ -41,6 +41,8 @@ earliest_at c (x ∷ l) (suc s) i e h =
     rw (ne_eqb x.cost c (λ q. omega (arith, h 0 (omega arith)))) (earliest_at c l s (omega arith) e (λ k q. h (suc k) (omega arith)))
 
 member-take : {A : Type 0} {x : A} (n : ℕ) (l : List A) → Memᴰ x (take n l) → Memᴰ x l
+member-take {A = A} zero l x'' = elim x'' [ ]
+member-take {A = A} (suc n) [] x4 = elim x4 [ ]
 member-take (suc n) (y ∷ l) (Memᴰ.head e) = Memᴰ.head e
 member-take (suc n) (y ∷ l) (Memᴰ.tail m) = Memᴰ.tail (member-take n l m)
 

@@ -1,5 +1,6 @@
 // What the formula takes at one place of a flow's path that hangs on no arrival bound: M's least cost, terms 4 to 6.
 #![tactic(auto)]
+
 ghost use Rattle.std.specs.Prelude.{◌≡◌, ◌-◌, ◌*◌, ◌≤◌, ◌<◌};
 ghost use Rattle.nets.specs.Nets.{Whole, count_in, room_in, length_in};
 ghost use Rattle.crossings.specs.Pairs.{Noted};

@@ -1,4 +1,3 @@
-use Prim.Native.Nat.{◌-◌}
 use borrow.Author.Rules.{rules}
 use Rattle.loads.proofs.Climb.{climbs_start, climbs_on, climbs_rest, climbs_past}
 use Rattle.loads.proofs.busy_length.Goals as goal

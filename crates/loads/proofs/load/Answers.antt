@@ -1,4 +1,4 @@
-use Prim.Native.Nat.{◌-◌, ◌*◌, ◌≤◌}
+use Prim.Native.Nat.{◌*◌, ◌≤◌}
 use native.Mathlib.Omega.{arith}
 use borrow.Author.Rules.{rules}
 use Rattle.least.specs.Lists.{values}
@@ -20,12 +20,11 @@ pub overflow_add-sum : goal.overflow_add-sum
 overflow_add-sum c = omega (arith, most c)
 
 pub loop-b-preserved : goal.loop-b-preserved
-loop-b-preserved c =
-    (
-      search rules,
-      omega (arith, most c),
-      load_more _ _ _ c.loop-b.b c.loop-b.sum c.loop-b.invariant.2 _ c.ceil.result c.period.ensures.value c.ceil.ensures.value,
-    )
+loop-b-preserved c = (
+  search rules,
+  omega (arith, most c),
+  load_more _ _ _ c.loop-b.b c.loop-b.sum c.loop-b.invariant.2 _ c.ceil.result c.period.ensures.value c.ceil.ensures.value,
+)
 
 pub returns : goal.returns
 returns c = record { value = search load_end; upper_bound = search rules }

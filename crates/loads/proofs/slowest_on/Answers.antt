@@ -1,4 +1,3 @@
-use Prim.Native.Nat.{◌-◌}
 use borrow.Author.Rules.{rules}
 use Rattle.least.proofs.Ranges.{max_to_next}
 use Rattle.loads.proofs.Turns.{slowest_start, slowest_end}
