@@ -1,7 +1,7 @@
 -- A flow that does not read another stays as that one's arrival bounds change. Assumes nothing.
 use mathlib.Core.Path.{◌≡◌, refl, sym, ap, ◌∙◌, subst}
 use mathlib.Core.Bool.{Bool, true, false}
-use mathlib.Core.List.{List, ◌∷◌, map, Memᴰ}
+use mathlib.Core.List.{List, [], ◌∷◌, map, Memᴰ}
 use Prim.Native.Nat.{ℕ, ◌<◌}
 use native.Mathlib.Omega.{arith}
 use lib.Dec.{eqb}
@@ -29,6 +29,7 @@ module _ (N : Net) (i : Flow) where
     where
       go : (l : List Flow) → Memᴰ k (map (λ j. record { flow = j; part = shared i.path j.path }) l) →
           Memᴰ k.flow l × (weight i.path k ≡ slowest i.path k.flow.path)
+      go [] x' = elim x' [ ]
       go (j ∷ l) (Memᴰ.head e) = (
         Memᴰ.head (ap (λ (k : Crossing). k.flow) e),
         ap (weight i.path) e ∙ slowest_shared i.path i.path (λ n v. v) j.path

@@ -25,7 +25,7 @@ use Rattle.nets.specs.Nets.{flow_at, node_at, position_of}
 use Rattle.nets.proofs.Places.{visits_at, position_node, prefix_at}
 use Rattle.nets.proofs.Sets.{flow_here_lem}
 use Rattle.terms.specs.Terms.{base_of}
-use Rattle.blocks.specs.Sheet.{entries_in, entry_at, added, term_of, sheet_sum, seen, sums}
+use Rattle.blocks.specs.Sheet.{entries_in, entry_at, term_of, sheet_sum, seen, sums}
 use Rattle.starts.specs.Runs.{StartsOf, reply_at, PastAt}
 use Rattle.frames.specs.Frames.{Entry, no_entry, EntryIs, Listed}
 use Rattle.entries.specs.Fields.{up_to, term_by, entries_to, added_of, responses_in}

@@ -14,7 +14,7 @@ use Rattle.least.proofs.Count.{le_or-lt, pick_below, pick_above}
 use Rattle.rules.specs.Net.{Hop, Flow, Net}
 use Rattle.rules.specs.Formula.{Role, Own, Higher, Equal, Lower, both, role, lower}
 use Rattle.rules.specs.Valid.{Valid}
-use Rattle.nets.specs.Nets.{few, count_in, room_in, length_in, field_in, hop_in, path_in, flow_in, net_in, flow_at, node_at}
+use Rattle.nets.specs.Nets.{count_in, room_in, length_in, field_in, hop_in, path_in, flow_in, net_in, flow_at, node_at}
 use Rattle.nets.proofs.Reading.{path_length, path_at, flows_length, flow_at_lem}
 use Rattle.crossings.specs.Pairs.{place_on, side_number}
 use Rattle.terms.specs.Terms.{base_of}

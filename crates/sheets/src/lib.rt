@@ -1,5 +1,6 @@
 // The sheet of a flow, written at its turn: what of the formula hangs neither on the instant nor on W, with the response bounds so far.
 #![tactic(auto)]
+
 ghost use Rattle.std.specs.Prelude.{◌≡◌, [], ◌∷◌, ℕ, ◌+◌, ◌*◌, ◌<◌, ◌≤◌, length};
 ghost use Rattle.least.specs.Lists.{values};
 ghost use Rattle.rules.specs.Valid.{Valid};

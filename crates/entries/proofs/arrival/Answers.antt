@@ -43,5 +43,8 @@ overflow_add-result-2 c = omega (arith, bound (goal.at.overflow_add-result-2 c).
 
 pub returns : goal.returns
 returns c =
-    record { value = arrival_later c.args.net.now (values c.args.replies.now) c.args.b c.args.q _ _ _ c.if-q-eq0.false c.lmax.ensures.value
-          c.room.ensures.value refl; upper_bound = omega (arith, bound (goal.at.returns c).After-room) }
+    record {
+      value = arrival_later c.args.net.now (values c.args.replies.now) c.args.b c.args.q _ _ _ c.if-q-eq0.false c.lmax.ensures.value
+          c.room.ensures.value refl;
+      upper_bound = omega (arith, bound (goal.at.returns c).After-room);
+    }
