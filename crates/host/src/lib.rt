@@ -1,5 +1,6 @@
 // The host's functions.
 #![tactic(auto)]
+
 ghost use Rattle.std.specs.Prelude.{◌≡◌, ◌<◌, ◌^◌, length};
 ghost use Rattle.host.specs.Host.{code_of, bound_in, plan_code, plan_bound, written_code, figure_of, figure_in, write_code, write_buffer, report_code, report_figure};
 ghost use Rattle.host.specs.Demands.{Judges, Bounds, Writes, Checks, Shows};
