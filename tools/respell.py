@@ -42,15 +42,30 @@ def declared():
                 brought |= {it.split(" as ")[0].strip() for it in m.group(2).split(",")}
         if not path.endswith(".antt"):
             continue
-        walk = os.path.basename(path) == "Proof.antt"
+        walk = re.search(r"/proofs/.*/", path)
         for line in text.split("\n"):
             m = re.match(r"(?:(?:abbrev|unfoldable|pub|record|data|axiom) )*([^\W\d]" + WORD + r"*)\s*(?::|\(.*:)", line)
-            if m and m.group(1) not in ("use", "mod", "module") and not (walk and (re.search(r": tie\.(Need-|invariant|decreases)", line) or re.search("[-_]spec$", m.group(1)))):
+            if m and m.group(1) not in ("use", "mod", "module") and not (walk and (re.search(r": (tie\.(Need-|invariant|decreases)|goal\.)", line) or re.search("[-_]spec$", m.group(1)))):
                 tops.setdefault(m.group(1), path)
             m = re.match(r"\s+pub ([^\W\d]" + WORD + r"*) : ", line)
             if m:
                 fields.setdefault(m.group(1), path)
+                continue
+            m = re.match(r"\s+(?:(?:abbrev|unfoldable|pub) )*([^\W\d]" + WORD + r"*)\s+:\s", line)
+            if m and not re.search(r"/proofs/.*/", path):
+                tops.setdefault(m.group(1), path)
     return tops, fields, brought
+
+
+def respelt(path, line, pattern, table):
+    """Prose names a definition between backticks, and may have the same words elsewhere."""
+
+    def to(text):
+        return pattern.sub(lambda m: table[m.group(1)], text)
+
+    if path.endswith(".md") or re.match(r"\s*(--|//)", line) or path.endswith(".edit") and not re.match(r"(file|old|new): ?", line):
+        return re.sub(r"`[^`]*`", lambda m: to(m.group(0)), line)
+    return to(line)
 
 
 def main():
@@ -78,7 +93,7 @@ def main():
     for path in files():
         with open(path, encoding="utf-8") as f:
             text = f.read()
-        new = pattern.sub(lambda m: table[m.group(1)], text)
+        new = "\n".join(respelt(path, line, pattern, table) for line in text.split("\n"))
         if new != text:
             with open(path, "w", encoding="utf-8") as f:
                 f.write(new)

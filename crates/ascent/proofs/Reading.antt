@@ -1,7 +1,7 @@
 -- A flow that does not read another stays as that one's arrival bounds change. Assumes nothing.
 use mathlib.Core.Path.{◌≡◌, refl, sym, ap, ◌∙◌, subst}
 use mathlib.Core.Bool.{Bool, true, false}
-use mathlib.Core.List.{List, ◌∷◌, map, Memᴰ}
+use mathlib.Core.List.{List, [], ◌∷◌, map, Memᴰ}
 use Prim.Native.Nat.{ℕ, ◌<◌}
 use native.Mathlib.Omega.{arith}
 use lib.Dec.{eqb}
@@ -29,6 +29,7 @@ module _ (N : Net) (i : Flow) where
     where
       go : (l : List Flow) → Memᴰ k (map (λ j. record { flow = j; part = shared i.path j.path }) l) →
           Memᴰ k.flow l × (weight i.path k ≡ slowest i.path k.flow.path)
+      go [] x' = elim x' [ ]
       go (j ∷ l) (Memᴰ.head e) = (
         Memᴰ.head (ap (λ (k : Crossing). k.flow) e),
         ap (weight i.path) e ∙ slowest_shared i.path i.path (λ n v. v) j.path
@@ -98,9 +99,9 @@ module _ (net : List ℕ) (val : Valid (net_in net)) (b a : ℕ) (hb : b < count
             let u : reads_own net b ≡ true = any_at (λ j. both (equal (role i j)) (crosses i.path j.path)) (here N i k m w) t in
             false_true (sym (ap (reads_own net) d ∙ e) ∙ u)
 
-  unread-in : reads_flow net b a ≡ false → (S S' : Arrivals) → ((k : Key) → (k.0 ≡ (flow_in net a).number → ⊥) → S k ≡ S' k) → Agree N i S S'
+  unread_in : reads_flow net b a ≡ false → (S S' : Arrivals) → ((k : Key) → (k.0 ≡ (flow_in net a).number → ⊥) → S k ≡ S' k) → Agree N i S S'
   unfolding reads_flow
-  unread-in e S S' same = go (eqb b a) refl e
+  unread_in e S S' same = go (eqb b a) refl e
     where
       go : (t : Bool) → eqb b a ≡ t → pick t (reads_own net a) (reads_of i (flow_in net a)) ≡ false → Agree N i S S'
       go true q z = itself S S' same (eqb-true b a q) z
@@ -109,4 +110,4 @@ module _ (net : List ℕ) (val : Valid (net_in net)) (b a : ℕ) (hb : b < count
   pub unread_is : reads_flow net b a ≡ false → Unread N b a
   unread_is e S S' same =
       subst (λ j. Agree N j S S') (sym (flow_at_lem net b hb))
-      (unread-in e S S' (λ k ne. same k (λ z. ne (z ∙ ap (λ j. j.number) (flow_at_lem net a ha)))))
+      (unread_in e S S' (λ k ne. same k (λ z. ne (z ∙ ap (λ j. j.number) (flow_at_lem net a ha)))))

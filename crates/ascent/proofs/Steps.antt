@@ -167,14 +167,14 @@ module _ (N : Net) (val : Valid N) (ready : (i : Flow) → Here N i → Ready N 
       good_raised marks' clear = record {
         up = λ b k hb hk. le_trans (either b k hb hk).1 (more b k hb hk);
         under = underᵛ_between (next_rising N ready) good.under rises stays;
-        done = λ b k hb hk z. up-to-date b k hb hk (clear b hb z).0 ∙ same b k hb hk (clear b hb z).1;
+        done = λ b k hb hk z. up_to_date b k hb hk (clear b hb z).0 ∙ same b k hb hk (clear b hb z).1;
       }
         where
-          up-to-date : (b k : ℕ) → b < n → k < length (flow_at N b).path →
+          up_to_date : (b k : ℕ) → b < n → k < length (flow_at N b).path →
               ((b ≡ a) × ((k : ℕ) → k < length (flow_at N a).path → due N w replies a k ≤ held w replies' a k)) ⊎ (values marks b ≡ 0) → held w replies' b k ≡ due N w replies b k
-          up-to-date b k hb hk (inl e) =
+          up_to_date b k hb hk (inl e) =
               subst (λ c. (k < length (flow_at N c).path) → held w replies' c k ≡ due N w replies c k) (sym e.0) (λ q. omega (arith, (raised k q).1, e.1 k q)) hk
-          up-to-date b k hb hk (inr z) = omega (arith, (either b k hb hk).0, (either b k hb hk).1, good.done b k hb hk z)
+          up_to_date b k hb hk (inr z) = omega (arith, (either b k hb hk).0, (either b k hb hk).1, good.done b k hb hk z)
 
           same : (b k : ℕ) → b < n → k < length (flow_at N b).path → Unread N b a → due N w replies b k ≡ due N w replies' b k
           same b k hb hk u =

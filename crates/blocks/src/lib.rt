@@ -1,6 +1,7 @@
 // One block of a sheet, that of a node of the path: the sum at the node, and what of it hangs on the instant alone. Sheet and starting times are lent,
 // so nothing here has a size.
 #![tactic(auto)]
+
 ghost use Rattle.std.specs.Prelude.{◌≡◌, ◌+◌, ◌<◌, ◌≤◌, length};
 ghost use Rattle.least.specs.Count.{count};
 ghost use Rattle.least.specs.Lists.{values};

@@ -30,10 +30,10 @@ module _ (h : ℕ) where
       go true e ih = false_true (sym e)
       go false e ih = omega (arith, ih e)
 
-  cost-position : (l : List Hop) → Distinct l → (get_or l (position_of h l) no_hop).cost ≡ cost_at l h
+  cost_position : (l : List Hop) → Distinct l → (get_or l (position_of h l) no_hop).cost ≡ cost_at l h
   unfolding before there max_of
-  cost-position [] d = refl
-  cost-position (k ∷ l) d = go (eqb k.node h) refl (cost-position l d.1)
+  cost_position [] d = refl
+  cost_position (k ∷ l) d = go (eqb k.node h) refl (cost_position l d.1)
     where
       go : (b : Bool) → eqb k.node h ≡ b → (get_or l (position_of h l) no_hop).cost ≡ cost_at l h →
           (get_or (k ∷ l) (length (pick b [] (k ∷ before h l))) no_hop).cost ≡ max (pick b k.cost 0) (cost_at l h)
@@ -42,7 +42,7 @@ module _ (h : ℕ) where
 
 pub cost-on : (net : List ℕ) (a b k : ℕ) → Distinct (path_in net b) → cost_on net a b k ≡ cost_at (path_in net b) (hop_in net a k).node
 unfolding cost_on place_on
-cost-on net a b k d = cost-position (hop_in net a k).node (path_in net b) d
+cost-on net a b k d = cost_position (hop_in net a k).node (path_in net b) d
 
 -- the slowest cost: no node, one more
 slowest-none : (l : List Hop) → slowest [] l ≡ 0
@@ -51,24 +51,24 @@ slowest-none [] = refl
 slowest-none (x ∷ l) = omega (arith, slowest-none l)
 
 module _ (k : Hop) where
-  visits-snoc : (P : List Hop) (x : ℕ) → visits (P ++ (k ∷ [])) x ≡ pick (visits P x) true (eqb x k.node)
+  visits_snoc : (P : List Hop) (x : ℕ) → visits (P ++ (k ∷ [])) x ≡ pick (visits P x) true (eqb x k.node)
   unfolding visits any_of
-  visits-snoc [] x = go (eqb x k.node) refl
+  visits_snoc [] x = go (eqb x k.node) refl
     where
       go : (b : Bool) → eqb x k.node ≡ b → pick (eqb k.node x) true false ≡ b
       go true e = rw (eq-eqb k.node x (sym (eqb-true x k.node e)))
       go false e = rw (ne_eqb k.node x (λ q. eqb-false x k.node e (sym q)))
-  visits-snoc (q ∷ P) x = go (visits-snoc P x) (eqb q.node x)
+  visits_snoc (q ∷ P) x = go (visits_snoc P x) (eqb q.node x)
     where
       go : visits (P ++ (k ∷ [])) x ≡ pick (visits P x) true (eqb x k.node) → (b : Bool) →
           pick b true (visits (P ++ (k ∷ [])) x) ≡ pick (pick b true (visits P x)) true (eqb x k.node)
       go ih true = refl
       go ih false = ih
 
-  slowest-snoc : (P l : List Hop) → slowest (P ++ (k ∷ [])) l ≡ max (slowest P l) (cost_at l k.node)
+  slowest_snoc : (P l : List Hop) → slowest (P ++ (k ∷ [])) l ≡ max (slowest P l) (cost_at l k.node)
   unfolding slowest there max_of
-  slowest-snoc P [] = refl
-  slowest-snoc P (x ∷ l) = rw (visits-snoc P x.node) (go (visits P x.node) (eqb x.node k.node) _ _ _ (slowest-snoc P l))
+  slowest_snoc P [] = refl
+  slowest_snoc P (x ∷ l) = rw (visits_snoc P x.node) (go (visits P x.node) (eqb x.node k.node) _ _ _ (slowest_snoc P l))
     where
       go : (b c : Bool) (u v w : ℕ) → u ≡ max v w → max (pick (pick b true c) x.cost 0) u ≡ max (max (pick b x.cost 0) v) (max (pick c x.cost 0) w)
       go true true u v w h = omega arith
@@ -84,13 +84,13 @@ slowest_to net a b d p h = ap (λ P. slowest P (path_in net b)) (path_front net 
   where
     go : (m : ℕ) → slowest (list_to (hop_in net a) m) (path_in net b) ≡ max_to m (cost_on net a b)
     go zero = slowest-none (path_in net b)
-    go (suc m) = slowest-snoc (hop_in net a m) (list_to (hop_in net a) m) (path_in net b) ∙ ap₂ max (go m) (sym (cost-on net a b m d))
+    go (suc m) = slowest_snoc (hop_in net a m) (list_to (hop_in net a) m) (path_in net b) ∙ ap₂ max (go m) (sym (cost-on net a b m d))
 
 -- of a flow's own path
 module _ (net : List ℕ) (a : ℕ) (d : Distinct (path_in net a)) where
   pub own_cost : (k : ℕ) → k < length_in net a → cost_at (path_in net a) (hop_in net a k).node ≡ (hop_in net a k).cost
   own_cost k h =
-      sym (cost-position (hop_in net a k).node (path_in net a) d) ∙ ap (λ n. (get_or (path_in net a) n no_hop).cost) (own_place net a d k h)
+      sym (cost_position (hop_in net a k).node (path_in net a) d) ∙ ap (λ n. (get_or (path_in net a) n no_hop).cost) (own_place net a d k h)
       ∙ ap (λ (q : Hop). q.cost) (path_at net a k h)
 
   pub own_slowest : (p : ℕ) → p ≤ length_in net a → slowest (take p (path_in net a)) (path_in net a) ≡ max_to p (λ k. (hop_in net a k).cost)

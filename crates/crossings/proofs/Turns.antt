@@ -74,14 +74,14 @@ module _ (l b : List Hop) (place : ℕ → ℕ) (is : (k : ℕ) → k < length l
   on-P : (k : ℕ) → k ≤ p → visits P (node k) ≡ true
   on-P k i = ap (visits P) (sym (at k i)) ∙ visits_at P k (omega (arith, long))
 
-  on-b : (k : ℕ) → k ≤ p → place k < length b → visits b (node k) ≡ true
-  on-b k i q = visits_below b (node k) (omega (arith, is k (omega arith)))
+  on_b : (k : ℕ) → k ≤ p → place k < length b → visits b (node k) ≡ true
+  on_b k i q = visits_below b (node k) (omega (arith, is k (omega arith)))
 
   -- on b, the first node that P has: none before it is at a place of P's nodes, and it is at one
   below : (k : ℕ) → k ≤ p → place k < length b → meet_at b P ≤ place k
   below k i q =
       meet-least b P (place k) q
-      (ap (λ j. visits P (get_or b j no_hop).node) (is k (omega arith)) ∙ ap (visits P) (position_node b (node k) (on-b k i q)) ∙ on-P k i)
+      (ap (λ j. visits P (get_or b j no_hop).node) (is k (omega arith)) ∙ ap (visits P) (position_node b (node k) (on_b k i q)) ∙ on-P k i)
 
   reached : meet_at b P < length b → (k : ℕ) × (k ≤ p) × (place k ≤ meet_at b P)
   reached q =
@@ -92,11 +92,11 @@ module _ (l b : List Hop) (place : ℕ → ℕ) (is : (k : ℕ) → k < length l
       (k, i, omega (arith, is k (omega arith), ap (λ x. position_of x b) (sym (at k i) ∙ position_node P n v), position_first b n (meet_at b P) q refl))
 
   -- it is the one whose place is the least
-  first-of-b : (g : ℕ) → g ≤ p → place g < length b → ((k : ℕ) → k ≤ p → place g ≤ place k) → first_on b P ≡ node g
-  first-of-b g i q least =
+  first_of_b : (g : ℕ) → g ≤ p → place g < length b → ((k : ℕ) → k ≤ p → place g ≤ place k) → first_on b P ≡ node g
+  first_of_b g i q least =
       let r = reached (omega (arith, below g i q)) in
       let e : meet_at b P ≡ position_of (node g) b = omega (arith, below g i q, least r.0 r.1, is g (omega arith)) in
-      first_node b P ∙ ap (λ j. (get_or b j no_hop).node) e ∙ position_node b (node g) (on-b g i q)
+      first_node b P ∙ ap (λ j. (get_or b j no_hop).node) e ∙ position_node b (node g) (on_b g i q)
 
   -- on P, the first node that b has
   shared : (k : ℕ) → k ≤ p → visits b (get_or P k no_hop).node ≡ true → place k < length b
@@ -112,14 +112,14 @@ module _ (l b : List Hop) (place : ℕ → ℕ) (is : (k : ℕ) → k < length l
       where
         here : meet_at P b ≡ f
         here = elim (le_or-lt f (meet_at P b)) [
-          | inl r ↦ omega (arith, meet-least P b f (omega (arith, long)) (ap (visits b) (at f q) ∙ on-b f q (found q)))
+          | inl r ↦ omega (arith, meet-least P b f (omega (arith, long)) (ap (visits b) (at f q) ∙ on_b f q (found q)))
           | inr r ↦ (
               let i : meet_at P b ≤ p = omega arith in
               absurd (omega (arith, first.before (meet_at P b) r, shared (meet_at P b) i (meet_visited P b (omega (arith, long))))))
         ]
 
-    none-of-b : p < f → length b ≤ meet_at b P
-    none-of-b q = elim (le_or-lt (length b) (meet_at b P)) [
+    none_of_b : p < f → length b ≤ meet_at b P
+    none_of_b q = elim (le_or-lt (length b) (meet_at b P)) [
       | inl r ↦ r
       | inr r ↦ (let g = reached r in absurd (omega (arith, first.before g.0 (omega arith))))
     ]
@@ -143,7 +143,7 @@ module _ (l b : List Hop) (place : ℕ → ℕ) (is : (k : ℕ) → k < length l
 
       -- where P shares nothing with b
       apart : p < f → eqb (first_on b P) (first_on P b) ≡ ltb p t
-      apart q = eq-eqb _ _ (meet-none b P (none-of-b q) ∙ sym (meet-none P b (none-of-P q))) ∙ sym (lt-ltb p t (turn-later q))
+      apart q = eq-eqb _ _ (meet-none b P (none_of_b q) ∙ sym (meet-none P b (none-of-P q))) ∙ sym (lt-ltb p t (turn-later q))
 
       -- where it shares the node at place f first
       module _ (q : f ≤ p) where
@@ -151,7 +151,7 @@ module _ (l b : List Hop) (place : ℕ → ℕ) (is : (k : ℕ) → k < length l
         bound = rw (lt-ltb f (length l) (omega arith))
 
         same : p < t → first_on b P ≡ node f
-        same z = first-of-b f q (found q) (λ k i. omega (arith, bound, turn.before k (omega arith)))
+        same z = first_of_b f q (found q) (λ k i. omega (arith, bound, turn.before k (omega arith)))
 
         other : t ≤ p → first_on b P ≡ node f → ⊥
         other z e =
@@ -179,7 +179,7 @@ module _ (net : List ℕ) (a b p : ℕ) (h : p < length_in net a) where
   pub least_shared : (g : ℕ) → g ≤ p → place_on net a b g < length_in net b → ((k : ℕ) → k ≤ p → place_on net a b g ≤ place_on net a b k) →
       first_on (path_in net b) (take (p + 1) (path_in net a)) ≡ (hop_in net a g).node
   least_shared g i q least =
-      first-of-b (path_in net a) (path_in net b) (place_on net a b) (place_is net a b) p on g i (omega (arith, path_length net b)) least ∙ node_at g i
+      first_of_b (path_in net a) (path_in net b) (place_on net a b) (place_is net a b) p on g i (omega (arith, path_length net b)) least ∙ node_at g i
 
   module _ (f : ℕ) (first : First (place_on net a b) (length_in net a) (length_in net b) f) where
     first' : First (place_on net a b) (length (path_in net a)) (length (path_in net b)) f

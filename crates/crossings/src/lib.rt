@@ -1,5 +1,6 @@
 // Each two flows of a set: where their paths meet, what one is to the other, how far one runs along the other; noted once, in lent bytes.
 #![tactic(auto)]
+
 ghost use Rattle.std.specs.Prelude.{◌≡◌, ℕ, ◌+◌, ◌*◌, ◌≤◌, ◌<◌, ltb, length, drop};
 ghost use Rattle.least.specs.Count.{pick};
 ghost use Rattle.least.specs.Lists.{values, First, Ahead};

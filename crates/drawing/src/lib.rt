@@ -1,5 +1,6 @@
 // A row and its link delays as the numbers that are lent.
 #![tactic(auto)]
+
 ghost use Rattle.std.specs.Prelude.{◌≡◌, ◌+◌, ◌≤◌, length};
 ghost use Rattle.flows.specs.Lists.{held, net_of};
 ghost use Rattle.nets.specs.Nets.{Whole, count_in, room_in, net_in};
@@ -29,8 +30,8 @@ fn draw(net: &mut [u16], f: Flow, at: usize)
 // A row and its link delays as numbers. The head comes last, so that what is read of it first is what was written last.
 pub fn picture(net: &mut [u16], row: Row, lmin: u16, lmax: u16)
     requires { length net.old ≡ 356 }
-    ensures net_after { net_in net.new ≡ net_of lmin lmax row }
-    ensures net_after_2 { (count_in net.new ≡ length (held row)) × (count_in net.new ≤ 16) × (room_in net.new ≡ 8) × Whole net.new }
+    ensures numbers { net_in net.new ≡ net_of lmin lmax row }
+    ensures shape { (count_in net.new ≡ length (held row)) × (count_in net.new ≤ 16) × (room_in net.new ≡ 8) × Whole net.new }
 {
     let n = row::size(row);
     let mut a: usize = 0;

@@ -93,30 +93,30 @@ module _ (net : List ℕ) where
     tested : (k : ℕ) → k < length N.flows → q k ≡ p (flow_at N k)
     tested k h = let b : k < count_in net = omega (arith, count) in same k b ∙ ap p (sym (flow_at_lem net k b))
 
-    first-fails : (r : ℕ) → FirstAt q (count_in net) r → first_or p f N.flows other ≡ f (flow_at N r).number
-    first-fails r i =
+    first_fails : (r : ℕ) → FirstAt q (count_in net) r → first_or p f N.flows other ≡ f (flow_at N r).number
+    first_fails r i =
         (first_or_lem p f other N.flows no_flow q r tested (subst (λ n. FirstIs q n r) (sym count) i.first)).0 (omega (arith, count, i.within))
 
-    none-fails : Clear q (count_in net) → first_or p f N.flows other ≡ other
-    none-fails i =
+    none_fails : Clear q (count_in net) → first_or p f N.flows other ≡ other
+    none_fails i =
         (first_or_lem p f other N.flows no_flow q (length N.flows) tested
         (record { most = omega arith; before = λ k h. i k (omega (arith, count)); fails = λ h. absurd (omega arith) })).1 (omega arith)
 
   -- 7
   crossing-judged : (k : ℕ) → FirstAt (crossed net) (count_in net) k → judged N ≡ Refused 7 (flow_at N k).number
   unfolding judged
-  crossing-judged k i = first-fails (misplaced N) (Refused 7) (load_judged N) (crossed net) (λ k h. refl) k i
+  crossing-judged k i = first_fails (misplaced N) (Refused 7) (load_judged N) (crossed net) (λ k h. refl) k i
 
   placed-judged : Clear (crossed net) (count_in net) → judged N ≡ load_judged N
   unfolding judged
-  placed-judged i = none-fails (misplaced N) (Refused 7) (load_judged N) (crossed net) (λ k h. refl) i
+  placed-judged i = none_fails (misplaced N) (Refused 7) (load_judged N) (crossed net) (λ k h. refl) i
 
   module _ (val : Valid N) (busies : List ℕ) where
     -- 8
     overload-judged : (k : ℕ) → Heavy net busies k → load_judged N ≡ Refused 8 (flow_at N k).number
     unfolding load_judged horizon
     overload-judged k o =
-        first-fails (λ j. ltb horizon (busy_length N j)) (Refused 8) (settled_judged N) (overloaded busies) (λ a h. ap (ltb horizon) (o.busies_are val a h)) k o.heavy
+        first_fails (λ j. ltb horizon (busy_length N j)) (Refused 8) (settled_judged N) (overloaded busies) (λ a h. ap (ltb horizon) (o.busies_are val a h)) k o.heavy
 
     module _ (past : Bool) (replies : List ℕ) (o : Outcome net busies past replies) where
       busy_is : (a : ℕ) → a < count_in net → values busies a ≡ busy_length N (flow_at N a)
@@ -124,7 +124,7 @@ module _ (net : List ℕ) where
 
       light-judged : load_judged N ≡ settled_judged N
       unfolding load_judged horizon
-      light-judged = none-fails (λ j. ltb horizon (busy_length N j)) (Refused 8) (settled_judged N) (overloaded busies) (λ a h. ap (ltb horizon) (o.busies_are val a h)) o.light
+      light-judged = none_fails (λ j. ltb horizon (busy_length N j)) (Refused 8) (settled_judged N) (overloaded busies) (λ a h. ap (ltb horizon) (o.busies_are val a h)) o.light
 
       ready : (j : rules.Flow) → Here N j → Ready N j
       unfolding horizon
@@ -180,25 +180,25 @@ module _ (lmin lmax : ℕ) (row : Row) (val : Valid (net_of lmin lmax row)) (net
   flow-of k = ap (λ N. flow_at N k) is ∙ at_place lmin lmax row k
 
   module _ (v : Verdict) where
-    judged-as : (j : Judgement) → judged (net_in net) ≡ j → v ≡ verdict_from j → v ≡ verdict_of lmin lmax row
+    judged_as : (j : Judgement) → judged (net_in net) ≡ j → v ≡ verdict_from j → v ≡ verdict_of lmin lmax row
     unfolding verdict_of
-    judged-as j e q = q ∙ ap verdict_from (sym e) ∙ ap (λ N. verdict_from (judged N)) is
+    judged_as j e q = q ∙ ap verdict_from (sym e) ∙ ap (λ N. verdict_from (judged N)) is
 
     pub crossing_said : (k : ℕ) → FirstAt (crossed net) (count_in net) k → v ≡ refused (Crossing (placed row k).number) → v ≡ verdict_of lmin lmax row
     unfolding verdict_from cause_of
     crossing_said k i e =
-        judged-as (Refused 7 (flow_at (net_in net) k).number) (crossing-judged net k i) (e ∙ ap (λ f. refused (Crossing f.number)) (sym (flow-of k)))
+        judged_as (Refused 7 (flow_at (net_in net) k).number) (crossing-judged net k i) (e ∙ ap (λ f. refused (Crossing f.number)) (sym (flow-of k)))
 
     module _ (clear : Clear (crossed net) (count_in net)) (busies : List ℕ) where
       pub overload_said : (k : ℕ) → Heavy net busies k → v ≡ refused (NoBusyLength (placed row k).number) → v ≡ verdict_of lmin lmax row
       unfolding verdict_from cause_of
       overload_said k o e =
-          judged-as (Refused 8 (flow_at (net_in net) k).number) (placed-judged net clear ∙ overload-judged net valid busies k o)
+          judged_as (Refused 8 (flow_at (net_in net) k).number) (placed-judged net clear ∙ overload-judged net valid busies k o)
           (e ∙ ap (λ f. refused (NoBusyLength f.number)) (sym (flow-of k)))
 
       pub unsettled_said : (replies : List ℕ) → Outcome net busies true replies → v ≡ refused Unsettled → v ≡ verdict_of lmin lmax row
       unfolding verdict_from cause_of
-      unsettled_said replies o e = judged-as (Refused 9 0) (placed-judged net clear ∙ unsettled-judged net valid busies replies o) e
+      unsettled_said replies o e = judged_as (Refused 9 0) (placed-judged net clear ∙ unsettled-judged net valid busies replies o) e
 
   module _ (busies replies : List ℕ) (o : Outcome net busies false replies) (few : count_in net ≤ most_flows) (room : room_in net ≡ most_nodes)
       (table : List Figures) (tally : FiguresUpTo row lmin replies busies (length (held row)) table) where
@@ -231,42 +231,42 @@ module _ (lmin lmax : ℕ) (row : Row) (val : Valid (net_of lmin lmax row)) (net
           busy = values busies k;
         }
 
-    given-list : List rules.Figures
-    given-list = map (figures M R) M.flows
+    given_list : List rules.Figures
+    given_list = map (figures M R) M.flows
 
-    all-figures : table ≡ map as_figures given-list ++ replicate (most_flows - length given-list) no_figures
-    unfolding given-list
-    all-figures = ext_get_or no_figures table (map as_figures given-list ++ replicate (most_flows - length given-list) no_figures) long each
+    all-figures : table ≡ map as_figures given_list ++ replicate (most_flows - length given_list) no_figures
+    unfolding given_list
+    all-figures = ext_get_or no_figures table (map as_figures given_list ++ replicate (most_flows - length given_list) no_figures) long each
       where
-        same : length given-list ≡ length M.flows
+        same : length given_list ≡ length M.flows
         same = length-map M.flows (figures M R)
 
-        long : length table ≡ length (map as_figures given-list ++ replicate (most_flows - length given-list) no_figures)
+        long : length table ≡ length (map as_figures given_list ++ replicate (most_flows - length given_list) no_figures)
         long = omega (
           arith,
           tally.long,
-          length-append (map as_figures given-list) (replicate (most_flows - length given-list) no_figures),
-          length-map given-list as_figures,
-          length-replicate {A = Figures} (most_flows - length given-list) no_figures,
+          length-append (map as_figures given_list) (replicate (most_flows - length given_list) no_figures),
+          length-map given_list as_figures,
+          length-replicate {A = Figures} (most_flows - length given_list) no_figures,
           same,
           flows_length net,
         )
 
-        each : (k : ℕ) → k < length table → get_or table k no_figures ≡ get_or (map as_figures given-list ++ replicate (most_flows - length given-list) no_figures) k no_figures
+        each : (k : ℕ) → k < length table → get_or table k no_figures ≡ get_or (map as_figures given_list ++ replicate (most_flows - length given_list) no_figures) k no_figures
         each k h = elim (le_or-lt (length M.flows) k) [
-          | inl q ↦ tally.rest k (omega (arith, in_row)) ∙ sym (padded_out as_figures given-list (most_flows - length given-list) no_figures k (omega (arith, same)))
+          | inl q ↦ tally.rest k (omega (arith, in_row)) ∙ sym (padded_out as_figures given_list (most_flows - length given_list) no_figures k (omega (arith, same)))
           | inr q ↦ figures-at k q
               ∙ sym (ap as_figures (get_or-map (figures M R) M.flows k no_flow))
-              ∙ sym (padded_in as_figures given-list (most_flows - length given-list) no_figures (figures M R no_flow) k (omega (arith, same)))
+              ∙ sym (padded_in as_figures given_list (most_flows - length given_list) no_figures (figures M R no_flow) k (omega (arith, same)))
         ]
 
     -- 10, or accepted
     pub figures_said : Clear (crossed net) (count_in net) → (v : Verdict) → DeadlinesIs row table v → v ≡ verdict_of lmin lmax row
-    unfolding verdict_from cause_of given given-list
+    unfolding verdict_from cause_of given given_list
     figures_said clear v d = elim (le_or-lt (length (held row)) d.at) [
-      | inl h ↦ judged-as v (Given (map (figures M R) M.flows)) (whole ∙ late.1 (omega (arith, in_row)))
+      | inl h ↦ judged_as v (Given (map (figures M R) M.flows)) (whole ∙ late.1 (omega (arith, in_row)))
           (d.timely h ∙ ap (λ t. let w : Verdict = record { cause = Accepted; figures = t } in w) all-figures)
-      | inr h ↦ judged-as v (Refused 10 (flow_at M d.at).number) (whole ∙ late.0 (omega (arith, in_row)))
+      | inr h ↦ judged_as v (Refused 10 (flow_at M d.at).number) (whole ∙ late.0 (omega (arith, in_row)))
           (d.late h ∙ ap (λ f. refused (PastDeadline f.number)) (sym (flow-of d.at)))
     ]
       where

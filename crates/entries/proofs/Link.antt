@@ -17,12 +17,12 @@ use Rattle.rules.specs.Net.{Hop, Flow, Net}
 use Rattle.rules.specs.Formula.{Role, Own, Higher, Equal, Lower, both, role, lower, visits, prefix, first_on, last_on, crosses, Crossing, smin, Arrivals, M, slowest, weight, own_weight, plus_a, less_a, term1, term2, packets, others, crossings, arrivals}
 use Rattle.rules.specs.Valid.{Valid}
 use Rattle.rules.proofs.Path.{prefix-visits, visits_here, visits-there, visits_member, visits-hop}
-use Rattle.rules.proofs.Shared.{shared, slowest_shared, first_of_shared, first-on_shared, last-on_shared, uncrossed_nothing}
+use Rattle.rules.proofs.Shared.{shared, slowest_shared, first_of_shared, first_on_shared, last_on_shared, uncrossed_nothing}
 use Rattle.nets.specs.Nets.{no_flow, flow_at, position_of}
 use Rattle.nets.proofs.Sets.{flow_here_lem, one_place, one-flow, own-role, own_number}
 use Rattle.blocks.specs.Sheet.{here_slot, instant_slot, node_slot, seen}
 use Rattle.frames.specs.Frames.{Entry}
-use Rattle.entries.specs.Fields.{term_by, arrival_by, entry_of, counted, entriesTo, responses_in}
+use Rattle.entries.specs.Fields.{term_by, arrival_by, entry_of, counted, entries_to, responses_in}
 use Rattle.entries.proofs.Places.{arrival_is}
 
 -- flows that meet: the first node of one on the other is on both
@@ -92,13 +92,13 @@ module _ (N : Net) (val : Valid N) (w : ℕ) (r : ℕ → ℕ) (a : ℕ) (here :
     own-flow q = one-flow N.flows val.rising i j (flow_here_lem N a here) (flow_here_lem N b there) (own_number i j q)
 
     f-same : first_on P crossing.part ≡ first_on P j.path
-    f-same = first-on_shared i.path P j.path on-path
+    f-same = first_on_shared i.path P j.path on-path
 
     g-same : first_on crossing.part P ≡ first_on j.path P
     g-same = first_of_shared i.path P within j.path
 
     l-same : last_on h P crossing.part ≡ last_on h P j.path
-    l-same = last-on_shared i.path P j.path h on-path
+    l-same = last_on_shared i.path P j.path h on-path
 
     weight-same : weight P crossing ≡ slowest P j.path
     unfolding weight
@@ -128,9 +128,9 @@ module _ (N : Net) (val : Valid N) (w : ℕ) (r : ℕ → ℕ) (a : ℕ) (here :
     left_out Equal q e = uncrossed_nothing P j.path e
     left_out Lower q e = refl
 
-    entry-alone : (v : ℕ → ℕ) → sum_of (term_by v) (pick (counted N w r a P h b) (entry (role i j) ∷ []) []) ≡ term_by v (entry (role i j))
+    entry_alone : (v : ℕ → ℕ) → sum_of (term_by v) (pick (counted N w r a P h b) (entry (role i j) ∷ []) []) ≡ term_by v (entry (role i j))
     unfolding counted sum_of
-    entry-alone v = go (counted N w r a P h b) refl
+    entry_alone v = go (counted N w r a P h b) refl
       where
         go : (t : Bool) → counted N w r a P h b ≡ t → sum_of (term_by v) (pick t (entry (role i j) ∷ []) []) ≡ term_by v (entry (role i j))
         go true e = omega arith
@@ -174,11 +174,11 @@ module _ (N : Net) (val : Valid N) (w : ℕ) (r : ℕ → ℕ) (a : ℕ) (here :
 
   -- one entry a flow, left out or not
   entries-each : (v : ℕ → ℕ) (n : ℕ) → n ≤ length N.flows →
-      sum_of (term_by v) (entriesTo N w r a P h n) ≡ sum_to n (λ b. term_by v (entry_of N w r a P h b (role i (flow_at N b))))
-  unfolding entriesTo sum_of sum_to
+      sum_of (term_by v) (entries_to N w r a P h n) ≡ sum_to n (λ b. term_by v (entry_of N w r a P h b (role i (flow_at N b))))
+  unfolding entries_to sum_of sum_to
   entries-each v zero l = refl
   entries-each v (suc n) l =
-      sum_append (term_by v) (entriesTo N w r a P h n) _ ∙ ap₂ (λ m n. m + n) (entries-each v n (omega arith)) (entry-alone n (omega arith) v)
+      sum_append (term_by v) (entries_to N w r a P h n) _ ∙ ap₂ (λ m n. m + n) (entries-each v n (omega arith)) (entry_alone n (omega arith) v)
 
   -- over all flows: terms 1 and 2, and i's packets after its first
   module _ (x : ℕ → ℕ) (s u : ℕ) where
@@ -190,9 +190,9 @@ module _ (N : Net) (val : Valid N) (w : ℕ) (r : ℕ → ℕ) (a : ℕ) (here :
         packets N i S P h u (λ l. x (position_of l i.path)) s (record { flow = j; part = shared i.path j.path }) (role i j)
         * weight P (record { flow = j; part = shared i.path j.path })
 
-    others-are : others N i S P h u (λ l. x (position_of l i.path)) s ≡ sum_of one N.flows
+    others_are : others N i S P h u (λ l. x (position_of l i.path)) s ≡ sum_of one N.flows
     unfolding others crossings one
-    others-are = sum-map _ _ N.flows
+    others_are = sum-map _ _ N.flows
 
     own-once : sum_to (length N.flows) (λ b. pick (is_own (role i (flow_at N b))) after 0) ≡ after
     own-once = sum_to-one (length N.flows) a _ here not_own ∙ rw (own-role i i refl)
@@ -206,11 +206,11 @@ module _ (N : Net) (val : Valid N) (w : ℕ) (r : ℕ → ℕ) (a : ℕ) (here :
             go Equal q = refl
             go Lower q = refl
 
-    pub entries_sum : sum_of (term_by (seen x s u)) (entriesTo N w r a P h (length N.flows)) ≡ others N i S P h u (λ l. x (position_of l i.path)) s + after
+    pub entries_sum : sum_of (term_by (seen x s u)) (entries_to N w r a P h (length N.flows)) ≡ others N i S P h u (λ l. x (position_of l i.path)) s + after
     unfolding one
     entries_sum =
         entries-each (seen x s u) (length N.flows) (le_refl _)
         ∙ sum_to_ext (length N.flows) _ (λ b. one (flow_at N b) + pick (is_own (role i (flow_at N b))) after 0)
         (λ b l. entry-role b l x s u (role i (flow_at N b)))
         ∙ sum_to-add (length N.flows) (λ b. one (flow_at N b)) (λ b. pick (is_own (role i (flow_at N b))) after 0)
-        ∙ ap₂ (λ m n. m + n) (sum_to_list one N.flows no_flow ∙ sym others-are) own-once
+        ∙ ap₂ (λ m n. m + n) (sum_to_list one N.flows no_flow ∙ sym others_are) own-once

@@ -22,7 +22,7 @@ use Rattle.crossings.proofs.Noting.{place_most}
 use Rattle.terms.specs.Terms.{smin_to, way_to}
 use Rattle.blocks.specs.Sheet.{here_slot, instant_slot, node_slot}
 use Rattle.frames.specs.Frames.{entry_from}
-use Rattle.entries.specs.Rows.{arrival_at, last_to, nearTo, weightTo, higherAt, equalAt, own_to, own_at}
+use Rattle.entries.specs.Rows.{arrival_at, last_to, near_to, weight_to, higher_at, equal_at, own_to, own_at}
 
 -- a place x of a's path that b passes: f to begin with, then T p
 pub record Shared (net : List ℕ) (a b f : ℕ) (T : ℕ → ℕ) (p x : ℕ) : Type 0 where
@@ -51,15 +51,15 @@ module _ (net : List ℕ) (a b f : ℕ) (first : First (place_on net a b) (lengt
     passes = rw e s.passes;
   }
 
-  near_none : (k : ℕ) → k ≤ f → nearTo net a b k ≡ 0
-  unfolding nearTo
+  near_none : (k : ℕ) → k ≤ f → near_to net a b k ≡ 0
+  unfolding near_to
   near_none zero i = refl
   near_none (suc k) i =
       rw (near_none k (omega arith))
       (sym (pick_above (place_on net a b k) (place_on net a b 0) k 0 (omega (arith, place_most net a b 0, first.before k (omega arith)))))
 
-  near_first : f < length_in net a → f ≡ nearTo net a b (suc f)
-  unfolding nearTo
+  near_first : f < length_in net a → f ≡ near_to net a b (suc f)
+  unfolding near_to
   near_first h = rw (near_none f (omega arith)) (go f refl)
     where
       go : (k : ℕ) → k ≡ f → f ≡ pick (ltb (place_on net a b f) (place_on net a b 0)) f 0
@@ -94,25 +94,25 @@ module _ (net : List ℕ) (a b f : ℕ) (first : First (place_on net a b) (lengt
       last_more = (last-next, shared-next (last_to net a b) _ p x y g h s e (ltb-true (place_on net a b p) (length_in net b)) last-next)
 
     -- the one whose node stands first on b's path
-    module _ (s : Shared net a b f (nearTo net a b) p x) (e : y ≡ pick (ltb (place_on net a b p) (place_on net a b x)) p x) where
-      near_next : y ≡ nearTo net a b (suc p)
-      unfolding nearTo
+    module _ (s : Shared net a b f (near_to net a b) p x) (e : y ≡ pick (ltb (place_on net a b p) (place_on net a b x)) p x) where
+      near_next : y ≡ near_to net a b (suc p)
+      unfolding near_to
       near_next = elim (le_or-lt p f) [
         | inl i ↦
             let q : p ≡ f = omega arith in
             e ∙ sym (pick_above (place_on net a b p) (place_on net a b x) p x (omega (arith, ap (place_on net a b) {x = x} {y = p} (s.from q ∙ sym q))))
-            ∙ s.from q ∙ near_first (omega arith) ∙ ap (λ k. nearTo net a b (suc k)) (sym q)
+            ∙ s.from q ∙ near_first (omega arith) ∙ ap (λ k. near_to net a b (suc k)) (sym q)
         | inr i ↦ e ∙ ap (λ z. pick (ltb (place_on net a b p) (place_on net a b z)) p z) (s.is i)
       ]
 
-      pub near_more : (y ≡ nearTo net a b (suc p)) × Shared net a b f (nearTo net a b) (p + 1) y
+      pub near_more : (y ≡ near_to net a b (suc p)) × Shared net a b f (near_to net a b) (p + 1) y
       near_more = (
         near_next,
-        shared-next (nearTo net a b) _ p x y g h s e (λ q. omega (arith, ltb-true (place_on net a b p) (place_on net a b x) q, s.passes)) near_next,
+        shared-next (near_to net a b) _ p x y g h s e (λ q. omega (arith, ltb-true (place_on net a b p) (place_on net a b x) q, s.passes)) near_next,
       )
 
   -- b's cost is 0 before
-  pub weight_none : (k : ℕ) → k ≤ f → weightTo net a b k ≡ 0
+  pub weight_none : (k : ℕ) → k ≤ f → weight_to net a b k ≡ 0
   unfolding max_to cost_on
   weight_none zero i = refl
   weight_none (suc k) i =
@@ -131,20 +131,20 @@ module _ (net : List ℕ) (a p : ℕ) {t w : ℕ} (period : t ≡ field_in net a
 
 module _ (net : List ℕ) (a b : ℕ) (r : ℕ → ℕ) (f p : ℕ) {plus way smin t w x : ℕ}
     (plus-is : plus ≡ field_in net b 3 + arrival_at net r b (place_on net a b f))
-    (smin-is : smin ≡ smin_to (net_in net) (flow_in net b) (place_on net a b x)) (period : t ≡ field_in net b 2) (weight : w ≡ weightTo net a b (p + 1)) where
+    (smin-is : smin ≡ smin_to (net_in net) (flow_in net b) (place_on net a b x)) (period : t ≡ field_in net b 2) (weight : w ≡ weight_to net a b (p + 1)) where
   pub higher_made : {look : ℕ} → x ≡ last_to net a b (suc p) → look ≡ pick (eqb x p) here_slot (node_slot x) → way ≡ way_to (net_in net) (flow_in net a) f →
-      entry_from look plus (way + smin) t w ≡ higherAt net a b r f p
-  unfolding higherAt
+      entry_from look plus (way + smin) t w ≡ higher_at net a b r f p
+  unfolding higher_at
   higher_made e l m =
       let s : smin ≡ smin_to (net_in net) (flow_in net b) (place_on net a b (last_to net a b (suc p))) =
       smin-is ∙ ap (λ k. smin_to (net_in net) (flow_in net b) (place_on net a b k)) e in
       entry_same (l ∙ ap (λ k. pick (eqb k p) here_slot (node_slot k)) e) plus-is (omega arith) period weight
 
-  pub equal_made : {j s : ℕ} → x ≡ nearTo net a b (suc p) → j ≡ field_in net a 3 → way ≡ way_to (net_in net) (flow_in net a) f → s ≡ arrival_at net r a x →
-      entry_from instant_slot (plus + s) (j + way + smin) t w ≡ equalAt net a b r f p
-  unfolding equalAt
+  pub equal_made : {j s : ℕ} → x ≡ near_to net a b (suc p) → j ≡ field_in net a 3 → way ≡ way_to (net_in net) (flow_in net a) f → s ≡ arrival_at net r a x →
+      entry_from instant_slot (plus + s) (j + way + smin) t w ≡ equal_at net a b r f p
+  unfolding equal_at
   equal_made {j} {s} e i m g =
-      let u : smin ≡ smin_to (net_in net) (flow_in net b) (place_on net a b (nearTo net a b (suc p))) =
+      let u : smin ≡ smin_to (net_in net) (flow_in net b) (place_on net a b (near_to net a b (suc p))) =
       smin-is ∙ ap (λ k. smin_to (net_in net) (flow_in net b) (place_on net a b k)) e in
-      let v : s ≡ arrival_at net r a (nearTo net a b (suc p)) = g ∙ ap (arrival_at net r a) e in
+      let v : s ≡ arrival_at net r a (near_to net a b (suc p)) = g ∙ ap (arrival_at net r a) e in
       entry_same refl (omega arith) (omega arith) period weight

@@ -30,7 +30,7 @@ use Rattle.terms.specs.Terms.{smin_to, way_to}
 use Rattle.blocks.specs.Sheet.{here_slot, node_slot}
 use Rattle.frames.specs.Frames.{Entry}
 use Rattle.entries.specs.Fields.{up_to, arrival_by, entry_of, counted, added_of}
-use Rattle.entries.specs.Rows.{arrival_at, last_to, nearTo, higherAt, equalAt, own_at}
+use Rattle.entries.specs.Rows.{arrival_at, last_to, near_to, higher_at, equal_at, own_at}
 
 -- the last node shared is the new one, if it is shared
 last_snoc : (k : Hop) (h : ℕ) (P b : List Hop) → last_on h (P ++ (k ∷ [])) b ≡ pick (visits b k.node) k.node (last_on h P b)
@@ -57,13 +57,13 @@ module _ (net : List ℕ) (a b : ℕ) where
   place k = place_on net a b k
 
   abbrev near : ℕ → ℕ
-  near n = nearTo net a b n
+  near n = near_to net a b n
 
   abbrev last : ℕ → ℕ
   last n = last_to net a b n
 
   near-below : (p : ℕ) → near (suc p) ≤ p
-  unfolding nearTo
+  unfolding near_to
   near-below zero = under (ltb (place 0) (place 0)) 0 0 0 (omega arith) (omega arith)
   near-below (suc p) = under (ltb (place (suc p)) (place (near (suc p)))) (suc p) (near (suc p)) (suc p) (omega arith) (omega (arith, near-below p))
 
@@ -71,7 +71,7 @@ module _ (net : List ℕ) (a b : ℕ) where
   near_first = ap place {x = near 1} {y = 0} (omega (arith, near-below 0))
 
   near_step : (p : ℕ) → place (near (suc p)) ≡ min (place (near p)) (place p)
-  unfolding nearTo
+  unfolding near_to
   near_step p = go (ltb (place p) (place (near p))) refl
     where
       go : (t : Bool) → ltb (place p) (place (near p)) ≡ t → place (pick t p (near p)) ≡ min (place (near p)) (place p)
@@ -167,14 +167,14 @@ module _ (net : List ℕ) (val : Valid (net_in net)) (a : ℕ) (one : a < count_
   pub upto_at : up_to (flow_at (net_in net) a) p ≡ take (p + 1) (path_in net a)
   upto_at = ap (λ (i : Flow). up_to i p) (flow_at_lem net a one)
 
-  pub node_at : node_at (flow_at (net_in net) a) p ≡ (hop_in net a p).node
-  node_at = ap (λ (i : Flow). node_at i p) (flow_at_lem net a one) ∙ ap (λ (q : Hop). q.node) (path_at net a p on)
+  pub node_at_lem : node_at (flow_at (net_in net) a) p ≡ (hop_in net a p).node
+  node_at_lem = ap (λ (i : Flow). node_at i p) (flow_at_lem net a one) ∙ ap (λ (q : Hop). q.node) (path_at net a p on)
 
   pub added_at : (hop_in net a p).cost + field_in net a 3 ≡ added_of (flow_at (net_in net) a) (node_at (flow_at (net_in net) a) p)
   unfolding added_of
   added_at =
       ap (λ c. c + field_in net a 3) (sym (own_cost net a (distinct_in net val a one) p on))
-      ∙ ap₂ (λ (i : Flow) h. cost_at i.path h + i.jitter) (sym (flow_at_lem net a one)) (sym node_at)
+      ∙ ap₂ (λ (i : Flow) h. cost_at i.path h + i.jitter) (sym (flow_at_lem net a one)) (sym node_at_lem)
 
 -- the entry of b at place p of a's path
 module _ (net : List ℕ) (val : Valid (net_in net)) (a b : ℕ) (one : a < count_in net) (other : b < count_in net) (r : ℕ → ℕ) (p : ℕ)
@@ -221,15 +221,15 @@ module _ (net : List ℕ) (val : Valid (net_in net)) (a b : ℕ) (one : a < coun
       l = last_to net a b (suc p)
 
       abbrev g : ℕ
-      g = nearTo net a b (suc p)
+      g = near_to net a b (suc p)
 
-      first-arrival : arrival_by N (room_in net) r b (hop_in net a f).node (path_in net b) ≡ arrival_at net r b (place_on net a b f)
+      first_arrival : arrival_by N (room_in net) r b (hop_in net a f).node (path_in net b) ≡ arrival_at net r b (place_on net a b f)
       unfolding arrival_by arrival_at place_on
-      first-arrival = refl
+      first_arrival = refl
 
-      near-arrival : arrival_by N (room_in net) r a (hop_in net a g).node (path_in net a) ≡ arrival_at net r a g
+      near_arrival : arrival_by N (room_in net) r a (hop_in net a g).node (path_in net a) ≡ arrival_at net r a g
       unfolding arrival_by arrival_at
-      near-arrival = rw (own_place net a distinct g (omega (arith, near-below net a b p)))
+      near_arrival = rw (own_place net a distinct g (omega (arith, near-below net a b p)))
 
       way_at : M N (flow_in net a) (hop_in net a f).node ≡ way_to N (flow_in net a) f
       way_at = way_to_lem N (flow_in net a) (hop_in net a f).node ∙ ap (way_to N (flow_in net a)) (own_place net a distinct f (omega arith))
@@ -238,9 +238,9 @@ module _ (net : List ℕ) (val : Valid (net_in net)) (a b : ℕ) (one : a < coun
       unfolding place_on
       smin-at k = smin_to_lem N (flow_in net b) (hop_in net a k).node
 
-      pub higher_at : role (flow_in net a) (flow_in net b) ≡ Higher → entry (role (flow_at N a) (flow_at N b)) ≡ higherAt net a b r f p
-      unfolding entry_of higherAt
-      higher_at e =
+      pub higher_at_lem : role (flow_in net a) (flow_in net b) ≡ Higher → entry (role (flow_at N a) (flow_at N b)) ≡ higher_at net a b r f p
+      unfolding entry_of higher_at
+      higher_at_lem e =
           ap entry (role-at ∙ e)
           ∙ rw (
             flow_at_lem net a one,
@@ -248,7 +248,7 @@ module _ (net : List ℕ) (val : Valid (net_in net)) (a b : ℕ) (one : a < coun
             last-shared net a b f first p on q (hop_in net a p).node,
             first_shared net a b p on f first q,
             slowest_to net a b (distinct_in net val b other) (p + 1) (omega arith),
-          ) (entry_same look (omega (arith, first-arrival)) (omega (arith, smin-at l, way_at)) refl)
+          ) (entry_same look (omega (arith, first_arrival)) (omega (arith, smin-at l, way_at)) refl)
         where
           look : pick (eqb (hop_in net a l).node (hop_in net a p).node) here_slot (node_slot (position_of (hop_in net a l).node (path_in net a)))
               ≡ pick (eqb l p) here_slot (node_slot l)
@@ -256,9 +256,9 @@ module _ (net : List ℕ) (val : Valid (net_in net)) (a b : ℕ) (one : a < coun
               let i : l < length_in net a = omega (arith, last_below net a b p) in
               ap₂ (λ t n. pick t here_slot (node_slot n)) (own_same net a distinct l p i on) (own_place net a distinct l i)
 
-      pub equal_at : role (flow_in net a) (flow_in net b) ≡ Equal → entry (role (flow_at N a) (flow_at N b)) ≡ equalAt net a b r f p
-      unfolding entry_of equalAt
-      equal_at e =
+      pub equal_at_lem : role (flow_in net a) (flow_in net b) ≡ Equal → entry (role (flow_at N a) (flow_at N b)) ≡ equal_at net a b r f p
+      unfolding entry_of equal_at
+      equal_at_lem e =
           ap entry (role-at ∙ e)
           ∙ rw (
             flow_at_lem net a one,
@@ -266,4 +266,4 @@ module _ (net : List ℕ) (val : Valid (net_in net)) (a b : ℕ) (one : a < coun
             near-shared net a b f first p on q,
             first_shared net a b p on f first q,
             slowest_to net a b (distinct_in net val b other) (p + 1) (omega arith),
-          ) (entry_same refl (omega (arith, first-arrival, near-arrival)) (omega (arith, smin-at g, way_at)) refl)
+          ) (entry_same refl (omega (arith, first_arrival, near_arrival)) (omega (arith, smin-at g, way_at)) refl)

@@ -52,9 +52,9 @@ module _ (N : Net) (w : ℕ) (r : ℕ → ℕ) (a : ℕ) (P : List Hop) (h : ℕ
   counted b = both (not (lower (role (flow_at N a) (flow_at N b)))) (crosses P (flow_at N b).path)
 
   -- the entries of the flows below b
-  unfoldable pub entriesTo : ℕ → List Entry
-  entriesTo zero = []
-  entriesTo (suc b) = entriesTo b ++ pick (counted b) (entry_of b (role (flow_at N a) (flow_at N b)) ∷ []) []
+  unfoldable pub entries_to : ℕ → List Entry
+  entries_to zero = []
+  entries_to (suc b) = entries_to b ++ pick (counted b) (entry_of b (role (flow_at N a) (flow_at N b)) ∷ []) []
 
 unfoldable pub added_of : Flow → ℕ → ℕ
 added_of i h = cost_at i.path h + i.jitter

@@ -19,30 +19,30 @@ module _ (net : List ℕ) (a b : ℕ) where
   last_to zero = 0
   last_to (suc p) = pick (ltb (place_on net a b p) (length_in net b)) p (last_to p)
 
-  unfoldable pub nearTo : ℕ → ℕ
-  nearTo zero = 0
-  nearTo (suc p) = pick (ltb (place_on net a b p) (place_on net a b (nearTo p))) p (nearTo p)
+  unfoldable pub near_to : ℕ → ℕ
+  near_to zero = 0
+  near_to (suc p) = pick (ltb (place_on net a b p) (place_on net a b (near_to p))) p (near_to p)
 
-  abbrev pub weightTo : ℕ → ℕ
-  weightTo p = max_to p (cost_on net a b)
+  abbrev pub weight_to : ℕ → ℕ
+  weight_to p = max_to p (cost_on net a b)
 
   -- the entry at place p of a higher flow, of an equal one, whose first place shared is f, and of a itself
-  unfoldable pub higherAt : (ℕ → ℕ) → ℕ → ℕ → Entry
-  higherAt r f p = record {
+  unfoldable pub higher_at : (ℕ → ℕ) → ℕ → ℕ → Entry
+  higher_at r f p = record {
     look = pick (eqb (last_to (suc p)) p) here_slot (node_slot (last_to (suc p)));
     plus = field_in net b 3 + arrival_at net r b (place_on net a b f);
     less = way_to (net_in net) (flow_in net a) f + smin_to (net_in net) (flow_in net b) (place_on net a b (last_to (suc p)));
     period = field_in net b 2;
-    weight = weightTo (p + 1);
+    weight = weight_to (p + 1);
   }
 
-  unfoldable pub equalAt : (ℕ → ℕ) → ℕ → ℕ → Entry
-  equalAt r f p = record {
+  unfoldable pub equal_at : (ℕ → ℕ) → ℕ → ℕ → Entry
+  equal_at r f p = record {
     look = instant_slot;
-    plus = field_in net b 3 + arrival_at net r b (place_on net a b f) + arrival_at net r a (nearTo (suc p));
-    less = field_in net a 3 + way_to (net_in net) (flow_in net a) f + smin_to (net_in net) (flow_in net b) (place_on net a b (nearTo (suc p)));
+    plus = field_in net b 3 + arrival_at net r b (place_on net a b f) + arrival_at net r a (near_to (suc p));
+    less = field_in net a 3 + way_to (net_in net) (flow_in net a) f + smin_to (net_in net) (flow_in net b) (place_on net a b (near_to (suc p)));
     period = field_in net b 2;
-    weight = weightTo (p + 1);
+    weight = weight_to (p + 1);
   }
 
 abbrev pub own_to : List ℕ → ℕ → ℕ → ℕ

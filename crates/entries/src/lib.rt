@@ -1,5 +1,6 @@
 // What an entry of one flow on the sheet of another takes, one place of the path after the other.
 #![tactic(auto)]
+
 ghost use Rattle.std.specs.Prelude.{◌≡◌, ◌+◌, ◌*◌, ◌<◌, ◌≤◌, max, ltb, eqb, length};
 ghost use Rattle.least.specs.Count.{pick};
 ghost use Rattle.least.specs.Lists.{values};

@@ -4,7 +4,7 @@ use mathlib.Core.Path.{◌≡◌, refl, sym, ap, ◌∙◌, subst}
 use mathlib.Core.Bool.{Bool, true, false, not, ◌&&◌, false≢true}
 use mathlib.Core.List.Memᴰ
 use mathlib.Core.List.{List, [], ◌∷◌, Memᴰ}
-use mathlib.Core.Logic.{◌⊎◌, ⊎_elim}
+use mathlib.Core.Logic.{⊎_elim}
 use native.Mathlib.Omega.{arith}
 use lib.ListN.{length, get_or, length-take}
 use lib.Seq.{get_or-take, get_or-drop}
@@ -20,7 +20,7 @@ use Rattle.flows.specs.declared.Cause.{Cause}
 use Rattle.flows.specs.declared.Cause.TheVariants.{Accepted, Delays}
 use Rattle.flows.specs.Lists.{most_nodes, hops_of, path_of, unused_of, flow_of}
 use Rattle.flows.specs.Tests.{most_delay, most_cost, delay_cause, every, hop_fits, hop_zero, ranges_fit, distinct, new_to, nodes_of, flow_cause}
-use Rattle.flows.specs.WellFormed.{Between, DelaysFit, Ranges, Differ, WellFormed, OfDelays, delays-fit, delays-unfit, OfFlow, number-zero, out_of_range, node-twice, well-formed, Exact, Each, each_none, each_more, Typed}
+use Rattle.flows.specs.WellFormed.{Between, DelaysFit, Ranges, Differ, WellFormed, OfDelays, delays-fit, delays_unfit, OfFlow, number-zero, out_of_range, node-twice, well_formed, Exact, Each, each_none, each_more, Typed}
 use Rattle.flows.proofs.Arrays.{nowhere, hop_at_lem, path_short, path_at, path_nodes}
 use Rattle.flows.proofs.Causes.{delays_crossed, delays_long, delays_in, cause_number, cause_range, cause_twice, cause_accepted}
 
@@ -86,9 +86,9 @@ module _ (n c : ℕ) where
   abbrev hop : net.Hop
   hop = record { node = n; cost = c }
 
-  hop-in : hop_fits hop ≡ true → (1 ≤ n) × Between 1 4095 c
+  hop_in_lem : hop_fits hop ≡ true → (1 ≤ n) × Between 1 4095 c
   unfolding hop_fits
-  hop-in e =
+  hop_in_lem e =
       let a = both _ (leb c most_cost) e in
       let b = both (not (eqb n 0)) (not (eqb c 0)) a.0 in
       (positive n b.0, (positive c b.1, leb-true c most_cost a.1))
@@ -117,9 +117,9 @@ module _ (f : Flow) (t : Typed f) where
     used-there : (k : ℕ) → k < f.length → get_or (path_of f) k nowhere ≡ hop (get_or f.nodes k 0) (get_or f.costs k 0)
     used-there k h = get_or-take f.length all k nowhere h ∙ hop-there k
 
-    used-in : every hop_fits (path_of f) ≡ true → (k : ℕ) → k < f.length → (1 ≤ get_or f.nodes k 0) × Between 1 4095 (get_or f.costs k 0)
-    used-in e k h =
-        hop-in _ _ (sym (ap hop_fits (used-there k h)) ∙ every-at hop_fits nowhere (path_of f) e k (omega (arith, path_short f t.nodes t.costs most)))
+    used_in : every hop_fits (path_of f) ≡ true → (k : ℕ) → k < f.length → (1 ≤ get_or f.nodes k 0) × Between 1 4095 (get_or f.costs k 0)
+    used_in e k h =
+        hop_in_lem _ _ (sym (ap hop_fits (used-there k h)) ∙ every-at hop_fits nowhere (path_of f) e k (omega (arith, path_short f t.nodes t.costs most)))
 
     in-used : ((k : ℕ) → k < f.length → (1 ≤ get_or f.nodes k 0) × Between 1 4095 (get_or f.costs k 0)) → every hop_fits (path_of f) ≡ true
     in-used g = every_of hop_fits nowhere (path_of f) fit
@@ -129,30 +129,30 @@ module _ (f : Flow) (t : Typed f) where
             let l : k < f.length = omega (arith, path_short f t.nodes t.costs most) in
             ap hop_fits (used-there k l) ∙ in-hop _ _ (g k l).0 (g k l).1
 
-    differ-in : distinct (nodes_of f) ≡ true → Differ f
-    differ-in e a b h i q =
+    differ_in : distinct (nodes_of f) ≡ true → Differ f
+    differ_in e a b h i q =
         distinct_at (nodes_of f) e a b h (omega (arith, path_nodes f t.nodes t.costs, path_short f t.nodes t.costs most))
         (get_or-take f.length f.nodes a 0 (omega arith) ∙ q ∙ sym (get_or-take f.length f.nodes b 0 i))
 
-    in-differ : Differ f → distinct (nodes_of f) ≡ true
-    in-differ g = distinct_of (nodes_of f) apart
+    in_differ : Differ f → distinct (nodes_of f) ≡ true
+    in_differ g = distinct_of (nodes_of f) apart
       where
         apart : (a b : ℕ) → a < b → b < length (nodes_of f) → get_or (nodes_of f) a 0 ≡ get_or (nodes_of f) b 0 → ⊥
         apart a b h i q =
             let l : b < f.length = omega (arith, length-take f.length f.nodes) in
             g a b h l (sym (get_or-take f.length f.nodes a 0 (omega arith)) ∙ q ∙ get_or-take f.length f.nodes b 0 l)
 
-  unused-in : every hop_zero (unused_of f) ≡ true → (k : ℕ) → f.length ≤ k → (get_or f.nodes k 0 ≡ 0) × (get_or f.costs k 0 ≡ 0)
+  unused_in : every hop_zero (unused_of f) ≡ true → (k : ℕ) → f.length ≤ k → (get_or f.nodes k 0 ≡ 0) × (get_or f.costs k 0 ≡ 0)
   unfolding hop_zero
-  unused-in e k h =
+  unused_in e k h =
       let z = every_any hop_zero nowhere refl (unused_of f) e (k - f.length) in
       let i : f.length + (k - f.length) ≡ k = omega arith in
       let q : get_or (unused_of f) (k - f.length) nowhere ≡ hop (get_or f.nodes k 0) (get_or f.costs k 0) =
       get_or-drop f.length all (k - f.length) nowhere ∙ ap (λ (j : ℕ). get_or all j nowhere) i ∙ hop-there k in
       hop-none _ _ (sym (ap hop_zero q) ∙ z)
 
-  in-unused : ((k : ℕ) → f.length ≤ k → (get_or f.nodes k 0 ≡ 0) × (get_or f.costs k 0 ≡ 0)) → every hop_zero (unused_of f) ≡ true
-  in-unused g = every_of hop_zero nowhere (unused_of f) none
+  in_unused : ((k : ℕ) → f.length ≤ k → (get_or f.nodes k 0 ≡ 0) × (get_or f.costs k 0 ≡ 0)) → every hop_zero (unused_of f) ≡ true
+  in_unused g = every_of hop_zero nowhere (unused_of f) none
     where
       none : (k : ℕ) → k < length (unused_of f) → hop_zero (get_or (unused_of f) k nowhere) ≡ true
       none k h =
@@ -172,14 +172,14 @@ module _ (f : Flow) (t : Typed f) where
         period = (positive f.period g.0, omega (arith, t.period));
         deadline = (positive f.deadline g.1, omega (arith, t.deadline));
         path = (positive f.length d.1, most);
-        node = λ k h. ((used-in most b.1 k h).0, omega (arith, t.node k));
-        cost = λ k h. (used-in most b.1 k h).1;
-        unused = unused-in a.1;
+        node = λ k h. ((used_in most b.1 k h).0, omega (arith, t.node k));
+        cost = λ k h. (used_in most b.1 k h).1;
+        unused = unused_in a.1;
       }
 
-  in-ranges : Ranges f → ranges_fit f ≡ true
+  in_ranges : Ranges f → ranges_fit f ≡ true
   unfolding ranges_fit
-  in-ranges r =
+  in_ranges r =
       join _ (every hop_zero (unused_of f))
       (join _ (every hop_fits (path_of f))
       (join _ (leb f.length most_nodes)
@@ -188,7 +188,7 @@ module _ (f : Flow) (t : Typed f) where
       (not-zero f.length r.path.0))
       (le-leb f.length most_nodes r.path.1))
       (in-used r.path.1 (λ k h. ((r.node k h).0, r.cost k h))))
-      (in-unused r.unused)
+      (in_unused r.unused)
 
   -- which of them is given
   of-flow : OfFlow f (flow_cause f)
@@ -198,21 +198,21 @@ module _ (f : Flow) (t : Typed f) where
       go true b d p q r = let h = eqb-true f.number 0 p in subst (OfFlow f) (cause_number f h) (number-zero h)
       go false false d p q r =
           let h = eqb-false f.number 0 p in
-          subst (OfFlow f) (cause_range f h false (sym q) refl) (out_of_range h (λ i. false≢true (sym q ∙ in-ranges i)))
+          subst (OfFlow f) (cause_range f h false (sym q) refl) (out_of_range h (λ i. false≢true (sym q ∙ in_ranges i)))
       go false true false p q r =
           let h = eqb-false f.number 0 p in
           let i = ranges_in q in
           subst (OfFlow f) (cause_twice f h true (sym q) refl false (sym r) refl)
-          (node-twice h i (λ g. false≢true (sym r ∙ in-differ i.path.1 g)))
+          (node-twice h i (λ g. false≢true (sym r ∙ in_differ i.path.1 g)))
       go false true true p q r =
           let h = eqb-false f.number 0 p in
           let i = ranges_in q in
-          subst (OfFlow f) (cause_accepted f h true (sym q) refl true (sym r) refl) (well-formed (record {
+          subst (OfFlow f) (cause_accepted f h true (sym q) refl true (sym r) refl) (well_formed (record {
             number = (omega (arith, h), omega (arith, t.number));
             priority = omega (arith, t.priority);
             jitter = omega (arith, t.jitter);
             ranges = i;
-            differ = differ-in i.path.1 r;
+            differ = differ_in i.path.1 r;
           }))
 
   -- and that it is the only one
@@ -220,11 +220,11 @@ module _ (f : Flow) (t : Typed f) where
   flow-only c (number-zero h) = cause_number f h
   flow-only c (out_of_range h n) = cause_range f h (ranges_fit f) refl (ap not (never_true (ranges_fit f) (λ e. n (ranges_in e))))
   flow-only c (node-twice h i n) =
-      cause_twice f h (ranges_fit f) refl (ap not (in-ranges i)) (distinct (nodes_of f)) refl
-      (ap not (never_true (distinct (nodes_of f)) (λ e. n (differ-in i.path.1 e))))
-  flow-only c (well-formed w) =
-      cause_accepted f (λ q. omega (arith, w.number.0)) (ranges_fit f) refl (ap not (in-ranges w.ranges)) (distinct (nodes_of f)) refl
-      (ap not (in-differ w.ranges.path.1 w.differ))
+      cause_twice f h (ranges_fit f) refl (ap not (in_ranges i)) (distinct (nodes_of f)) refl
+      (ap not (never_true (distinct (nodes_of f)) (λ e. n (differ_in i.path.1 e))))
+  flow-only c (well_formed w) =
+      cause_accepted f (λ q. omega (arith, w.number.0)) (ranges_fit f) refl (ap not (in_ranges w.ranges)) (distinct (nodes_of f)) refl
+      (ap not (in_differ w.ranges.path.1 w.differ))
 
   -- Refusals 2 to 4: each is given exactly when the rules say so
   pub flow_exact : Exact (flow_cause f) (OfFlow f)
@@ -238,10 +238,10 @@ module _ (f : Flow) (t : Typed f) where
   formed e = go ((flow_exact Accepted).0 e)
     where
       go : OfFlow f Accepted → WellFormed f
-      go (well-formed w) = w
+      go (well_formed w) = w
 
   pub formed_passes : WellFormed f → flow_cause f ≡ Accepted
-  formed_passes w = (flow_exact Accepted).1 (well-formed w)
+  formed_passes w = (flow_exact Accepted).1 (well_formed w)
 
 -- ---- refusal 1
 module _ (lmin lmax : ℕ) where
@@ -251,10 +251,10 @@ module _ (lmin lmax : ℕ) where
       go : (p q : Bool) → ltb lmax lmin ≡ p → ltb most_delay lmax ≡ q → OfDelays lmin lmax (delay_cause lmin lmax)
       go true q i j =
           let h = ltb-true lmax lmin i in
-          subst (OfDelays lmin lmax) (delays_crossed lmin lmax h) (delays-unfit (λ g. omega (arith, h, g.0)))
+          subst (OfDelays lmin lmax) (delays_crossed lmin lmax h) (delays_unfit (λ g. omega (arith, h, g.0)))
       go false true i j =
           let h = ltb-true most_delay lmax j in
-          subst (OfDelays lmin lmax) (delays_long lmin lmax (ltb-false lmax lmin i) h) (delays-unfit (λ g. omega (arith, h, g.1)))
+          subst (OfDelays lmin lmax) (delays_long lmin lmax (ltb-false lmax lmin i) h) (delays_unfit (λ g. omega (arith, h, g.1)))
       go false false i j =
           let h = ltb-false lmax lmin i in
           let g = ltb-false most_delay lmax j in
@@ -262,11 +262,11 @@ module _ (lmin lmax : ℕ) where
 
   delays-only : (c : Cause) → OfDelays lmin lmax c → c ≡ delay_cause lmin lmax
   delays-only c (delays-fit h) = delays_in lmin lmax h.0 h.1
-  delays-only c (delays-unfit n) = go (delay_cause lmin lmax) refl of-delays
+  delays-only c (delays_unfit n) = go (delay_cause lmin lmax) refl of-delays
     where
       go : (d : Cause) → delay_cause lmin lmax ≡ d → OfDelays lmin lmax d → Delays ≡ delay_cause lmin lmax
       go d e (delays-fit h) = absurd (n h)
-      go d e (delays-unfit g) = sym e
+      go d e (delays_unfit g) = sym e
 
   -- Refusal 1 is given exactly when the rules say so
   pub delays_exact : Exact (delay_cause lmin lmax) (OfDelays lmin lmax)

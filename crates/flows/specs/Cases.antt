@@ -1,5 +1,5 @@
 -- Each edge of refusals 1 to 4, as rows under one statement: the cause is the expected one. The causes are read off RULES, refusals.
-use Rattle.std.specs.Prelude.{ℕ, ◌+◌, ◌-◌, ◌≡◌, refl, List, [], ◌∷◌, ◌++◌, length, replicate}
+use Rattle.std.specs.Prelude.{ℕ, ◌-◌, ◌≡◌, refl, List, [], ◌∷◌, ◌++◌, length, replicate}
 use Rattle.flows.specs.declared.Flow.{Flow}
 use Rattle.flows.specs.declared.Cause.{Cause}
 use Rattle.flows.specs.declared.Cause.TheVariants.{Accepted, Delays, NumberZero, OutOfRange, NodeTwice}

@@ -36,13 +36,13 @@ pub record WellFormed (f : Flow) : Type 0 where
 -- the refusal of link delays, and that of a flow by itself: the lowest that applies
 pub data OfDelays (lmin lmax : ℕ) : Cause → Type 0 where
   delays-fit : DelaysFit lmin lmax → OfDelays lmin lmax Accepted
-  delays-unfit : (DelaysFit lmin lmax → ⊥) → OfDelays lmin lmax Delays
+  delays_unfit : (DelaysFit lmin lmax → ⊥) → OfDelays lmin lmax Delays
 
 pub data OfFlow (f : Flow) : Cause → Type 0 where
   number-zero : f.number ≡ 0 → OfFlow f NumberZero
   out_of_range : (f.number ≡ 0 → ⊥) → (Ranges f → ⊥) → OfFlow f OutOfRange
   node-twice : (f.number ≡ 0 → ⊥) → Ranges f → (Differ f → ⊥) → OfFlow f NodeTwice
-  well-formed : WellFormed f → OfFlow f Accepted
+  well_formed : WellFormed f → OfFlow f Accepted
 
 -- a cause is given exactly when the rules say so
 abbrev pub Exact : Cause → (Cause → Type 0) → Type 0

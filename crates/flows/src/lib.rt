@@ -1,5 +1,6 @@
 // The types of the table, why a call is refused, and refusals 1 to 4 as tests.
 #![tactic(auto)]
+
 ghost use Rattle.std.specs.Prelude.{◌≡◌, ◌<◌, ◌≤◌, length};
 ghost use Rattle.flows.specs.Refusals.{number_of, accepted_by, flow_named, refusal_of, cause_in, place_in};
 ghost use Rattle.flows.specs.Lists.{most_nodes, no_flow, path_of, unused_of};

@@ -115,11 +115,11 @@ module _ (n k : ℕ) (e e₁ e₂ : List ℕ) {Q : Type 0} {x : List Entry} wher
 
 -- one entry more
 module _ (n p : ℕ) (x : Entry) (e e' : List ℕ) (A : Appended n p x e e') (size : values e 0 ≡ block_size n) (room : entries_in e p < n) where
-  count-begin : values e (begin_of n p + 2) ≡ entries_in e p
-  count-begin = ap (λ s. values e (1 + p * s + 2)) (sym size)
+  count_begin : values e (begin_of n p + 2) ≡ entries_in e p
+  count_begin = ap (λ s. values e (1 + p * s + 2)) (sym size)
 
   pub appended_within : Within n p e e'
-  appended_within j h = A.kept j (λ q. h (omega arith) (omega arith)) (λ g q. h (omega arith) (omega (arith, count-begin)))
+  appended_within j h = A.kept j (λ q. h (omega arith) (omega arith)) (λ g q. h (omega arith) (omega (arith, count_begin)))
 
   begins : block_at e' p ≡ begin_of n p
   begins = ap (λ s. 1 + p * s) (within_size n p e e' appended_within ∙ size)
@@ -130,14 +130,14 @@ module _ (n p : ℕ) (x : Entry) (e e' : List ℕ) (A : Appended n p x e e') (si
   still : (i : ℕ) → (i ≡ 2 → ⊥) → i < 3 + entries_in e p * 5 → values e' (block_at e' p + i) ≡ values e (block_at e p + i)
   still i d h =
       ap (λ s. values e' (s + i)) begins
-      ∙ A.kept (begin_of n p + i) (λ q. d (omega arith)) (λ g q. omega (arith, count-begin))
+      ∙ A.kept (begin_of n p + i) (λ q. d (omega arith)) (λ g q. omega (arith, count_begin))
       ∙ ap (λ s. values e (s + i)) (sym began)
 
   at-still : (i s t : ℕ) → s ≡ block_at e' p + i → t ≡ block_at e p + i → (i ≡ 2 → ⊥) → i < 3 + entries_in e p * 5 → values e' s ≡ values e t
   at-still i s t u v d h = ap (values e') u ∙ still i d h ∙ sym (ap (values e) v)
 
   counted : entries_in e' p ≡ entries_in e p + 1
-  counted = ap (λ s. values e' (s + 2)) begins ∙ A.count ∙ ap (λ c. c + 1) count-begin
+  counted = ap (λ s. values e' (s + 2)) begins ∙ A.count ∙ ap (λ c. c + 1) count_begin
 
   earlier : (q : ℕ) (y : Entry) → q < entries_in e p → EntryIs e (entry_at e p q) y → EntryIs e' (entry_at e' p q) y
   earlier q y h E = record {
@@ -150,7 +150,7 @@ module _ (n p : ℕ) (x : Entry) (e e' : List ℕ) (A : Appended n p x e e') (si
 
   newest : (q : ℕ) → q ≡ entries_in e p → EntryIs e' (entry_at e' p q) x
   newest q h =
-      let z : begin_of n p + 3 + 5 * values e (begin_of n p + 2) ≡ entry_at e' p q = omega (arith, begins, count-begin) in
+      let z : begin_of n p + 3 + 5 * values e (begin_of n p + 2) ≡ entry_at e' p q = omega (arith, begins, count_begin) in
       subst (λ k. EntryIs e' k x) z A.entry
 
   appended-looks : x.look < node_slot p → LooksAt e p → LooksAt e' p

@@ -1,5 +1,6 @@
 // A sheet while it is filled: blocks of one size, one for each place of a path, each with room for an entry of every flow.
 #![tactic(auto)]
+
 ghost use Rattle.std.specs.Prelude.{◌≡◌, ◌+◌, ◌*◌, ◌<◌, ◌≤◌, length};
 ghost use Rattle.nets.specs.Nets.{few, Whole, count_in};
 ghost use Rattle.blocks.specs.Sheet.{node_slot, entries_in};

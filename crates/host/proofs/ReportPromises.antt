@@ -68,14 +68,14 @@ module _ (b : List ℕ) (u : Bytes b) (old : List ℕ) where
   abbrev answer : Written
   answer = report_written (length old) (length (table_lines (plan_answer b).table))
 
-  reported-in : TableReported (plan_answer b).table old answer (report_after (table_lines (plan_answer b).table) old)
-  reported-in = reported (plan_answer b).table (answer_made b u) old
+  reported_in : TableReported (plan_answer b).table old answer (report_after (table_lines (plan_answer b).table) old)
+  reported_in = reported (plan_answer b).table (answer_made b u) old
 
-  short-code : length old < size s → written_code answer ≡ 13
-  short-code h = ap written_code (reported-in.report.short h).0
+  short_code : length old < size s → written_code answer ≡ 13
+  short_code h = ap written_code (reported_in.report.short h).0
 
-  long-code : size s ≤ length old → written_code answer ≡ 256 * size s
-  long-code h = ap written_code (reported-in.report.long h).0
+  long_code : size s ≤ length old → written_code answer ≡ 256 * size s
+  long_code h = ap written_code (reported_in.report.long h).0
 
   writes : Writes b old (write_code b (length old)) (write_buffer b old)
   unfolding write_code write_buffer plan_code
@@ -86,14 +86,14 @@ module _ (b : List ℕ) (u : Bytes b) (old : List ℕ) where
           let yes = accepted_only (plan_answer b).cause e in
           record {
             refused = λ never. absurd (never yes);
-            short = λ _ h. short-code h;
-            long = λ _ h. long-code h;
-            report = λ _. reported-in;
-            told = (λ z. (yes, room z (ltb (length old) (size s)) refl), λ z. let l = long-code z.1 in omega arith);
+            short = λ _ h. short_code h;
+            long = λ _ h. long_code h;
+            report = λ _. reported_in;
+            told = (λ z. (yes, room z (ltb (length old) (size s)) refl), λ z. let l = long_code z.1 in omega arith);
           }
         where
           room : written_code answer % 256 ≡ 0 → (q : Bool) → ltb (length old) (size s) ≡ q → size s ≤ length old
-          room z true i = let l = short-code (ltb-true _ _ i) in absurd (omega arith)
+          room z true i = let l = short_code (ltb-true _ _ i) in absurd (omega arith)
           room z false i = ltb-false _ _ i
       go false e =
           let never = refused-never (plan_answer b).cause e in
@@ -167,9 +167,9 @@ module _ (b : List ℕ) (f : (k : ℕ) → Fits w8 (get_or b k 0)) (number figur
   outside o (Given g) = sym (figure_none g figure (none_of o 1 (omega arith) (omega arith)) (none_of o 2 (omega arith) (omega arith)) (none_of o 3 (omega arith) (omega arith)))
   outside o (asked.Refused x) = refl
 
-  lacks-figure : ((l : Line) → Listed b l → l.number ≡ number → ⊥) → report_figure b number figure ≡ 0
+  lacks_figure : ((l : Line) → Listed b l → l.number ≡ number → ⊥) → report_figure b number figure ≡ 0
   unfolding report_figure
-  lacks-figure n = ap (λ (a : Asked). figure_in a figure) ((asks b f number).absent n)
+  lacks_figure n = ap (λ (a : Asked). figure_in a figure) ((asks b f number).absent n)
 
   shows : Shows b number figure (report_figure b number figure)
   unfolding report_figure
@@ -189,8 +189,8 @@ module _ (b : List ℕ) (f : (k : ℕ) → Fits w8 (get_or b k 0)) (number figur
 
       some : No → report_figure b number figure ≡ 0
       some (inl never) =
-          lacks-figure (λ l m h. Memᴰ.not-nil (subst (Memᴰ l) (ap lines_in ((place_inside b (bytes_fit b f)).empty never) ∙ lines_of []) m))
-      some (inr (inl n)) = lacks-figure n
+          lacks_figure (λ l m h. Memᴰ.not-nil (subst (Memᴰ l) (ap lines_in ((place_inside b (bytes_fit b f)).empty never) ∙ lines_of []) m))
+      some (inr (inl n)) = lacks_figure n
       some (inr (inr o)) = outside o answered
 
 pub figure_promise : (b : List ℕ) (number figure r : ℕ) → ((k : ℕ) → Fits w8 (get_or b k 0)) → r ≡ report_figure b number figure → Shows b number figure r

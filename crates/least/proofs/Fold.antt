@@ -8,7 +8,7 @@ use native.Mathlib.Omega.{arith}
 use lib.ListN.{length, get_or}
 use Rattle.least.specs.Count.{pick}
 use Rattle.least.proofs.Count.{le_or-lt}
-use Rattle.least.specs.Fold.{sum_to, sum_of, max_of, minOf, only, any_of}
+use Rattle.least.specs.Fold.{sum_to, sum_of, max_of, min_of, only, any_of}
 
 pub false_true : {A : Type 0} → false ≡ true → A
 false_true e = absurd (let z : ◌≡◌ {A = ℕ} 0 1 = cc in omega arith)
@@ -102,8 +102,8 @@ module _ {A : Type 0} where
   max_sublist f (Sublistᴰ.cons-cons e s) = omega (arith, ap f e, max_sublist f s)
 
   -- the least
-  pub min_sublist : (d : ℕ) (f : A → ℕ) {l m : List A} → Sublistᴰ l m → minOf d f m ≤ minOf d f l
-  unfolding minOf
+  pub min_sublist : (d : ℕ) (f : A → ℕ) {l m : List A} → Sublistᴰ l m → min_of d f m ≤ min_of d f l
+  unfolding min_of
   min_sublist d f Sublistᴰ.slnil = omega arith
   min_sublist d f (Sublistᴰ.cons s) = omega (arith, min_sublist d f s)
   min_sublist d f (Sublistᴰ.cons-cons e s) = omega (arith, ap f e, min_sublist d f s)
@@ -188,11 +188,11 @@ sum_to-one (suc n) a f l h = elim (le_or-lt n a) [
 pub sum_to_list : {A : Type 0} (f : A → ℕ) (l : List A) (d : A) → sum_to (length l) (λ j. f (get_or l j d)) ≡ sum_of f l
 unfolding sum_of sum_to
 sum_to_list f [] d = refl
-sum_to_list f (x ∷ l) d = sum-to-first (length l) (λ j. f (get_or (x ∷ l) j d)) ∙ ap (λ s. f x + s) (sum_to_list f l d)
+sum_to_list f (x ∷ l) d = sum_to-first (length l) (λ j. f (get_or (x ∷ l) j d)) ∙ ap (λ s. f x + s) (sum_to_list f l d)
   where
-    sum-to-first : (n : ℕ) (g : ℕ → ℕ) → sum_to n g + g n ≡ g 0 + sum_to n (λ j. g (suc j))
-    sum-to-first zero g = omega arith
-    sum-to-first (suc n) g = omega (arith, sum-to-first n g)
+    sum_to-first : (n : ℕ) (g : ℕ → ℕ) → sum_to n g + g n ≡ g 0 + sum_to n (λ j. g (suc j))
+    sum_to-first zero g = omega arith
+    sum_to-first (suc n) g = omega (arith, sum_to-first n g)
 
 -- over a mapped list
 pub sum-map : {A B : Type 0} (f : B → ℕ) (g : A → B) (l : List A) → sum_of f (map g l) ≡ sum_of (λ x. f (g x)) l

@@ -8,7 +8,7 @@ use native.Mathlib.Numerals.{add-one}
 use native.Mathlib.Omega.{arith}
 use lib.ListN.{take}
 use lib.Seq.{take_all, take-append-le}
-use Rattle.least.specs.Fold.{sum_to, max_to, min_to, sum_of, max_of, minOf}
+use Rattle.least.specs.Fold.{sum_to, max_to, min_to, sum_of, max_of, min_of}
 use Rattle.least.specs.Lists.{list_to}
 use Rattle.least.proofs.Count.{le_or-lt}
 use Rattle.least.proofs.Fold.{sum_append, max_append}
@@ -42,13 +42,13 @@ min_to_ext d zero f g h = refl
 min_to_ext d (suc n) f g h = omega (arith, h n (omega arith), min_to_ext d n f g (λ j l. h j (omega arith)))
 
 module _ {A : Type 0} where
-  min-snoc : (d : ℕ) (g : A → ℕ) (l : List A) (x : A) → minOf d g (l ++ (x ∷ [])) ≡ min (minOf d g l) (g x)
-  unfolding minOf
-  min-snoc d g [] x = omega arith
-  min-snoc d g (y ∷ l) x = omega (arith, min-snoc d g l x)
+  min_snoc : (d : ℕ) (g : A → ℕ) (l : List A) (x : A) → min_of d g (l ++ (x ∷ [])) ≡ min (min_of d g l) (g x)
+  unfolding min_of
+  min_snoc d g [] x = omega arith
+  min_snoc d g (y ∷ l) x = omega (arith, min_snoc d g l x)
 
-  pub min_map : {B : Type 0} (d : ℕ) (g : A → ℕ) (f : B → A) (l : List B) → minOf d g (map f l) ≡ minOf d (λ x. g (f x)) l
-  unfolding minOf
+  pub min_map : {B : Type 0} (d : ℕ) (g : A → ℕ) (f : B → A) (l : List B) → min_of d g (map f l) ≡ min_of d (λ x. g (f x)) l
+  unfolding min_of
   min_map d g f [] = refl
   min_map d g f (x ∷ l) = ap (min (g (f x))) (min_map d g f l)
 
@@ -64,10 +64,10 @@ module _ {A : Type 0} where
     max_listed g zero = refl
     max_listed g (suc n) = omega (arith, max_append g (list_to f n) (f n ∷ []), max_listed g n)
 
-    pub min_listed : (d : ℕ) (g : A → ℕ) (n : ℕ) → minOf d g (list_to f n) ≡ min_to d n (λ j. g (f j))
-    unfolding minOf min_to list_to
+    pub min_listed : (d : ℕ) (g : A → ℕ) (n : ℕ) → min_of d g (list_to f n) ≡ min_to d n (λ j. g (f j))
+    unfolding min_of min_to list_to
     min_listed d g zero = refl
-    min_listed d g (suc n) = omega (arith, min-snoc d g (list_to f n) (f n), min_listed d g n)
+    min_listed d g (suc n) = omega (arith, min_snoc d g (list_to f n) (f n), min_listed d g n)
 
     pub take_listed : (k n : ℕ) → k ≤ n → take k (list_to f n) ≡ list_to f k
     unfolding list_to

@@ -4,7 +4,7 @@ use Prim.Native.Nat.{ℕ, zero, suc, ◌+◌, ◌≤◌, ◌<◌}
 use native.Mathlib.Omega.{arith}
 use native.Mathlib.Nat.{le_refl}
 use Rattle.least.specs.Fixed.{Rising, Least}
-use Rattle.least.specs.Starts.{Sums, Order, Starts, Within, startTo}
+use Rattle.least.specs.Starts.{Sums, Order, Starts, Within, start_to}
 use Rattle.least.proofs.Fixed.{least_ext, slow-least}
 
 module _ {I : Type 0} (P : Order I) where
@@ -33,37 +33,37 @@ module _ {I : Type 0} (P : Order I) where
 
     -- existence, where a rise of the starting time by B raises its sum by less
     module _ (B : ℕ) (slow : (h : I) → P.On h → (x : I → ℕ) (w : ℕ) → g h x (w + B) < g h x w + B) where
-      to-least : (n : ℕ) (h : I) → P.On h → Least (g h (startTo g B n)) (startTo g B (suc n) h)
-      unfolding startTo
-      to-least n h o = slow-least (g h (startTo g B n)) B (sum_rises h o (startTo g B n)) (slow h o (startTo g B n))
+      to-least : (n : ℕ) (h : I) → P.On h → Least (g h (start_to g B n)) (start_to g B (suc n) h)
+      unfolding start_to
+      to-least n h o = slow-least (g h (start_to g B n)) B (sum_rises h o (start_to g B n)) (slow h o (start_to g B n))
 
       -- more depth than needed changes nothing
-      deeper : (n m : ℕ) (h : I) → P.On h → P.rank h < n → P.rank h < m → startTo g B n h ≤ startTo g B m h + 0
+      deeper : (n m : ℕ) (h : I) → P.On h → P.rank h < n → P.rank h < m → start_to g B n h ≤ start_to g B m h + 0
       deeper zero m h o p q = absurd (omega arith)
       deeper (suc n) zero h o p q = absurd (omega arith)
       deeper (suc n) (suc m) h o p q =
-          (to-least n h o).lowest (startTo g B (suc m) h + 0)
+          (to-least n h o).lowest (start_to g B (suc m) h + 0)
           (omega (
             arith,
-            rises h o (startTo g B n) (startTo g B m)
+            rises h o (start_to g B n) (start_to g B m)
                 (λ l b. deeper n m l (P.on l h b) (omega (arith, P.less l h b)) (omega (arith, P.less l h b)))
-                (startTo g B (suc m) h + 0) (startTo g B (suc m) h) (le_refl _),
+                (start_to g B (suc m) h + 0) (start_to g B (suc m) h) (le_refl _),
             (to-least m h o).fixed,
           ))
 
-      pub starts_found : (N : ℕ) → ((h : I) → P.On h → P.rank h < N) → Starts P g (startTo g B N)
+      pub starts_found : (N : ℕ) → ((h : I) → P.On h → P.rank h < N) → Starts P g (start_to g B N)
       starts_found zero all h o = absurd (omega (arith, all h o))
       starts_found (suc n) all h o = least_ext same (to-least n h o)
         where
-          down : (l : I) → P.Before l h → startTo g B n l ≤ startTo g B (suc n) l + 0
+          down : (l : I) → P.Before l h → start_to g B n l ≤ start_to g B (suc n) l + 0
           down l b = deeper n (suc n) l (P.on l h b) (omega (arith, P.less l h b, all h o)) (all l (P.on l h b))
 
-          up : (l : I) → P.Before l h → startTo g B (suc n) l ≤ startTo g B n l + 0
+          up : (l : I) → P.Before l h → start_to g B (suc n) l ≤ start_to g B n l + 0
           up l b = deeper (suc n) n l (P.on l h b) (all l (P.on l h b)) (omega (arith, P.less l h b, all h o))
 
-          same : (w : ℕ) → g h (startTo g B n) w ≡ g h (startTo g B (suc n)) w
+          same : (w : ℕ) → g h (start_to g B n) w ≡ g h (start_to g B (suc n)) w
           same w = omega (
             arith,
-            rises h o (startTo g B n) (startTo g B (suc n)) down w w (omega arith),
-            rises h o (startTo g B (suc n)) (startTo g B n) up w w (omega arith),
+            rises h o (start_to g B n) (start_to g B (suc n)) down w w (omega arith),
+            rises h o (start_to g B (suc n)) (start_to g B n) up w w (omega arith),
           )

@@ -40,16 +40,16 @@ module _ {I : Type 0} where
   -- Existence below a vector that is not raised, where finitely many places count: elsewhere the operator gives 0.
   module _ (F : (I → ℕ) → I → ℕ) (m : Risingᵛ F) (places : List I)
       (few : (i : I) → Memᴰ i places ⊎ ((S : I → ℕ) → F S i ≡ 0)) where
-    no-gain : (S : I → ℕ) → Underᵛ F S → sum_of (F S) places ≤ sum_of S places → F S ⊑ S
-    no-gain S u h i = elim (few i) [
+    no_gain : (S : I → ℕ) → Underᵛ F S → sum_of (F S) places ≤ sum_of S places → F S ⊑ S
+    no_gain S u h i = elim (few i) [
       | inl r ↦ sum_tight S (F S) places (λ j q. u.up j) h i r
       | inr z ↦ omega (arith, z S)
     ]
 
     exists-from : (U : I → ℕ) → F U ⊑ U → (k : ℕ) (S : I → ℕ) → Underᵛ F S → sum_of U places ≤ sum_of S places + k → (S : I → ℕ) × Leastᵛ F S
-    exists-from U d zero S u h = (S, underᵛ_done u (no-gain S u (omega (arith, sum_le (F S) U places (λ i r. (underᵛ_step m u).low U d i)))))
+    exists-from U d zero S u h = (S, underᵛ_done u (no_gain S u (omega (arith, sum_le (F S) U places (λ i r. (underᵛ_step m u).low U d i)))))
     exists-from U d (suc k) S u h = elim (le_or-lt (sum_of (F S) places) (sum_of S places)) [
-      | inl q ↦ (S, underᵛ_done u (no-gain S u q))
+      | inl q ↦ (S, underᵛ_done u (no_gain S u q))
       | inr q ↦ exists-from U d k (F S) (underᵛ_step m u) (omega arith)
     ]
 

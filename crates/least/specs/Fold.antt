@@ -26,9 +26,9 @@ module _ {A : Type 0} where
   max_of f (x ∷ xs) = max (f x) (max_of f xs)
 
   -- the least of d and the values
-  unfoldable pub minOf : ℕ → (A → ℕ) → List A → ℕ
-  minOf d f [] = d
-  minOf d f (x ∷ xs) = min (f x) (minOf d f xs)
+  unfoldable pub min_of : ℕ → (A → ℕ) → List A → ℕ
+  min_of d f [] = d
+  min_of d f (x ∷ xs) = min (f x) (min_of d f xs)
 
   -- the value of those that pass a test; nothing otherwise
   abbrev pub only : (A → Bool) → (A → ℕ) → A → ℕ

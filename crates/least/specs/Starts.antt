@@ -25,6 +25,6 @@ module _ {I : Type 0} where
       (w w' : ℕ) → w ≤ w' + c → g h x w ≤ g' h x' w' + c
 
   -- Worked out from the first node on. B is such that a rise of the starting time by B raises its sum by less.
-  unfoldable pub startTo : Sums I → ℕ → ℕ → I → ℕ
-  startTo g B zero h = 0
-  startTo g B (suc n) h = climb (g h (startTo g B n)) (suc (g h (startTo g B n) 0 * B)) 0
+  unfoldable pub start_to : Sums I → ℕ → ℕ → I → ℕ
+  start_to g B zero h = 0
+  start_to g B (suc n) h = climb (g h (start_to g B n)) (suc (g h (start_to g B n) 0 * B)) 0

@@ -1,6 +1,7 @@
 // Mathematics with no flow in it: definitions in specs/, laws in proofs/. The code is the greater, the lesser and the difference of two numbers, how
 // often one goes into another, a short number as a long one, and a lent slice filled with a number or with a part of another.
 #![tactic(auto)]
+
 ghost use Rattle.std.specs.Prelude.{◌≡◌, ℕ, ◌+◌, ◌-◌, ◌≤◌, ◌<◌, max, min, length};
 ghost use Rattle.least.specs.Count.{ceil};
 ghost use Rattle.least.specs.Lists.{values, Inside};

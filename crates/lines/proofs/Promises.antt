@@ -12,7 +12,7 @@ use Rattle.flows.specs.declared.Asked.{Asked}
 use Rattle.flows.specs.declared.Asked.TheVariants.{Given}
 use Rattle.flows.specs.declared.Asked.TheVariants as asked
 use Rattle.flows.specs.declared.Outcome.{Outcome}
-use Rattle.flows.specs.declared.Outcome.TheVariants.{Read, Refused}
+use Rattle.flows.specs.declared.Outcome.TheVariants.{Read}
 use Rattle.flows.specs.declared.Written.{Written}
 use Rattle.flows.specs.declared.Written.TheVariants.{Length}
 use Rattle.flows.specs.declared.Written.TheVariants as written

@@ -19,7 +19,7 @@ use Rattle.records.specs.Bodies.{line_read}
 use Rattle.reader.specs.declared.Kind.{Kind}
 use Rattle.reader.specs.declared.Kind.TheVariants.{OfCount, OfLine, OfClose}
 use Rattle.reader.specs.Places.{kind_at}
-use Rattle.reader.proofs.Places.{if_here, if_other, Other, other_kind, seen_here, seen_other}
+use Rattle.reader.proofs.Places.{if_here, if_other, seen_here, seen_other}
 use Rattle.lines.specs.declared.Report.{Report}
 use Rattle.lines.specs.declared.Reading.{Reading}
 use Rattle.lines.specs.Reports.{no_line, lines_in, report_of, with_line}
@@ -67,7 +67,7 @@ line_part b at l e = let z : at + line_record - (at + 1) ≡ line_body = omega a
 
 -- ---- the end
 module _ (report : Report) (b : List ℕ) (at : ℕ) (k : Kind) (e : k ≡ kind_at b at) where
-  pub close_other : (r : Reading) → Other OfClose k → r ≡ refused Malformed at → r ≡ read_close report b at
+  pub close_other : (r : Reading) → (k ≡ OfClose → ⊥) → r ≡ refused Malformed at → r ≡ read_close report b at
   unfolding read_close
   close_other r o g = g ∙ sym (seen_other b at OfClose _ _ k e o)
 
@@ -133,8 +133,8 @@ module _ (count : ℕ) (most : count ≤ most_flows) (report : Report) (b : List
     unfolding left
     here = let z : count - length ls ≡ suc (count - (length ls + 1)) = omega (arith, counted) in rw z at inv
 
-    pub lines_other : (k : Kind) (r : Reading) → k ≡ kind_at b at → Other OfLine k → r ≡ refused Malformed at → r ≡ x
-    lines_other k r e o g = g ∙ sym (lines_at_other ls b at left (λ m. other_kind OfLine k o (e ∙ m))) ∙ here
+    pub lines_other : (k : Kind) (r : Reading) → k ≡ kind_at b at → (k ≡ OfLine → ⊥) → r ≡ refused Malformed at → r ≡ x
+    lines_other k r e o g = g ∙ sym (lines_at_other ls b at left (λ m. o (e ∙ m))) ∙ here
 
     module _ (k : Kind) (e : k ≡ kind_at b at) (i : k ≡ OfLine) (l : Line) (j : l ≡ line_at b at) (cause : Cause) (c : cause ≡ line_cause last l)
         (t : Bool) (a : t ≡ accepted_by cause) where
@@ -187,8 +187,8 @@ module _ (b : List ℕ) where
   report_at_other n = if_other (kind_at b 0) OfCount _ _ n
 
 module _ (b : List ℕ) (k : Kind) (r : Reading) (e : k ≡ kind_at b 0) where
-  pub report_other : Other OfCount k → r ≡ refused Malformed 0 → r ≡ read_report b
-  report_other o g = g ∙ sym (report_at_other b (λ h. other_kind OfCount k o (e ∙ h)))
+  pub report_other : (k ≡ OfCount → ⊥) → r ≡ refused Malformed 0 → r ≡ read_report b
+  report_other o g = g ∙ sym (report_at_other b (λ h. o (e ∙ h)))
 
   module _ (h : k ≡ OfCount) where
     pub report_many : most_flows < count_in b → r ≡ refused Malformed 0 → r ≡ read_report b

@@ -31,7 +31,7 @@ use Rattle.lines.specs.declared.Reading.{Reading}
 use Rattle.lines.specs.Reports.{report_of}
 use Rattle.lines.specs.Reading.{count_in, line_at, refused, last_number, figures_fit, line_cause, read_lines, read_report}
 use Rattle.lines.specs.Writing.{count_bytes, line_bytes, lines_bytes, report_bytes, report_length}
-use Rattle.lines.specs.Demands.{Possible, Listable, InForm, StartsCount, StartsLine, StartsClose, After, OfRecord, not-rising, not-possible, Unread, no-count, too_many, no_line, of-line, no-close, after-close, Sought, at-start, behind, Foreign}
+use Rattle.lines.specs.Demands.{Possible, Listable, InForm, StartsCount, StartsLine, StartsClose, After, OfRecord, not-rising, not-possible, Unread, no-count, too_many, no_line, of-line, no_close, after_close, Sought, at-start, behind, Foreign}
 use Rattle.lines.proofs.Steps.{close_at_other, close_more, number_last, lines_end, lines_at_line, lines_at_other, report_at_other}
 use Rattle.lines.proofs.Puts.{body_long, lines_long}
 use Rattle.lines.proofs.Trips.{close_here, close_starts, line_here_lem, line_same, line_starts, count_starts, count_here, report_starts, accepted-line, after_rest, read_after, form_read}
@@ -55,9 +55,9 @@ record Taken (ls : List Line) (l : Line) : Type 0 where
   figures : Possible l.figures
 
 module _ (ls : List Line) (l : Line) where
-  of-record : Taken ls l ⊎ OfRecord ls l (line_cause (last_number ls) l)
+  of_record : Taken ls l ⊎ OfRecord ls l (line_cause (last_number ls) l)
   unfolding line_cause
-  of-record = go (leb l.number (last_number ls)) (figures_fit l.figures) refl refl
+  of_record = go (leb l.number (last_number ls)) (figures_fit l.figures) refl refl
     where
       go : (p q : Bool) → leb l.number (last_number ls) ≡ p → figures_fit l.figures ≡ q →
           Taken ls l ⊎ OfRecord ls l (cond p Malformed (cond q Accepted OutOfRange))
@@ -113,7 +113,7 @@ module _ {b : List ℕ} {n : ℕ} {ls : List Line} {at : ℕ} {rest : List ℕ} 
 
 -- ---- any bytes are in form, or one of their records is refused
 data Decided (b : List ℕ) : Type 0 where
-  in-form : InForm b → Decided b
+  in_form : InForm b → Decided b
   unread : (c : Cause) (place : ℕ) → Unread b c place → Decided b
 
 pub none_listable : Listable []
@@ -130,19 +130,19 @@ module _ (b : List ℕ) (u : Bytes b) where
     ended : length ls ≡ n → (x : List ℕ) → rest ≡ close_kind ∷ x → Decided b
     unfolding report_bytes
     ended h [] e =
-        in-form (record {
+        in_form (record {
           lines = ls;
           listable = a.listable;
           bytes = a.bytes ∙ ap (λ (x : List ℕ). before a ++ x) e ∙ ap (λ (m : ℕ). (count_bytes m ++ lines_bytes ls) ++ (close_kind ∷ [])) (sym h);
         })
-    ended h (x ∷ y) e = unread Malformed (at + 1) (after-close n ls at x y (subst (After b n ls at) e a) h)
+    ended h (x ∷ y) e = unread Malformed (at + 1) (after_close n ls at x y (subst (After b n ls at) e a) h)
 
     close-decided : length ls ≡ n → Decided b
     close-decided h = go (is_kind (kind_at b at) OfClose)
       where
         go : (kind_at b at ≡ OfClose) ⊎ (kind_at b at ≡ OfClose → ⊥) → Decided b
         go (inl k) = let s = close_starts b at (after_rest a) k in ended h s.rest s.bytes
-        go (inr m) = unread Malformed at (no-close n ls at rest a h (λ s. m (close_here b at (after_rest a) s)))
+        go (inr m) = unread Malformed at (no_close n ls at rest a h (λ s. m (close_here b at (after_rest a) s)))
 
     line-decided : length ls < n → ((l : Line) (s : StartsLine rest l) → Taken ls l → Decided b) → Decided b
     line-decided h next = go (is_kind (kind_at b at) OfLine)
@@ -152,7 +152,7 @@ module _ (b : List ℕ) (u : Bytes b) where
         tested s (inr o) = unread _ at (of-line n ls at rest (line_at b at) _ a h s o)
 
         go : (kind_at b at ≡ OfLine) ⊎ (kind_at b at ≡ OfLine → ⊥) → Decided b
-        go (inl k) = tested (line_starts b at (after_rest a) u k) (of-record ls (line_at b at))
+        go (inl k) = tested (line_starts b at (after_rest a) u k) (of_record ls (line_at b at))
         go (inr m) = unread Malformed at (no_line n ls at rest a h (λ l s. m (line_here_lem b at (after_rest a) s)))
 
   after-decided : (more : ℕ) {n : ℕ} {ls : List Line} {at : ℕ} {rest : List ℕ} → more + length ls ≡ n → After b n ls at rest → Decided b
@@ -191,8 +191,8 @@ module _ (b : List ℕ) (u : Bytes b) where
   gives c place (of-line n ls at rest l d a h s o) =
       let q = record-only ls l d o in
       after_line a h ∙ lines_at_line ls b at (n - (length ls + 1)) (line_here_lem b at (after_rest a) s) ∙ rw (line_same b at (after_rest a) s, q.0, q.1)
-  gives c place (no-close n ls at rest a h m) = after-end a h ∙ lines_end ls b at ∙ close_at_other (report_of ls) b at (λ k. m (close_starts b at (after_rest a) k))
-  gives c place (after-close n ls at x y a h) =
+  gives c place (no_close n ls at rest a h m) = after-end a h ∙ lines_end ls b at ∙ close_at_other (report_of ls) b at (λ k. m (close_starts b at (after_rest a) k))
+  gives c place (after_close n ls at x y a h) =
       let s : StartsClose (close_kind ∷ x ∷ y) = record { rest = x ∷ y; bytes = refl } in
       let i : at + 1 < length b = omega (arith, (first_byte b at (after_rest a) close_kind (x ∷ y) refl).1) in
       after-end a h ∙ lines_end ls b at ∙ sym (close_more (report_of ls) b at OfClose (sym (close_here b at (after_rest a) s)) _ refl i refl)
@@ -202,16 +202,16 @@ module _ (b : List ℕ) (u : Bytes b) where
   refuses c place (too_many n s h) = refl
   refuses c place (no_line n ls at rest a h m) = refl
   refuses c place (of-line n ls at rest l d a h s o) = (record-only ls l d o).1
-  refuses c place (no-close n ls at rest a h m) = refl
-  refuses c place (after-close n ls at x y a h) = refl
+  refuses c place (no_close n ls at rest a h m) = refl
+  refuses c place (after_close n ls at x y a h) = refl
 
   inside : (c : Cause) (place : ℕ) → Unread b c place → place ≤ report_length most_flows
   inside c place (no-count n) = omega arith
   inside c place (too_many n s h) = omega arith
   inside c place (no_line n ls at rest a h m) = omega (arith, after-inside a)
   inside c place (of-line n ls at rest l d a h s o) = omega (arith, after-inside a)
-  inside c place (no-close n ls at rest a h m) = omega (arith, after-inside a)
-  inside c place (after-close n ls at x y a h) = after-inside a
+  inside c place (no_close n ls at rest a h m) = omega (arith, after-inside a)
+  inside c place (after_close n ls at x y a h) = after-inside a
 
   outcome-of : (c : Cause) (place : ℕ) → Unread b c place → (read_report b).outcome ≡ Refused c place
   unfolding refused
@@ -223,7 +223,7 @@ module _ (b : List ℕ) (u : Bytes b) where
   place_inside = go decided
     where
       go : Decided b → Inside (read_report b)
-      go (in-form i) =
+      go (in_form i) =
           subst Inside (sym (form_read b i)) (record { place = omega arith; refuses = λ never. absurd (never refl); empty = λ never. absurd (never refl) })
       go (unread c place n) =
           subst Inside (sym (gives c place n)) (record { place = inside c place n; refuses = λ never. refuses c place n; empty = λ never. refl })
@@ -233,7 +233,7 @@ module _ (b : List ℕ) (u : Bytes b) where
   report_form h = go decided
     where
       go : Decided b → InForm b
-      go (in-form i) = i
+      go (in_form i) = i
       go (unread c place n) = let e = outcome-of c place n in impossible (cc)
 
   -- What is refused is refused as the words say, and exactly then
@@ -241,7 +241,7 @@ module _ (b : List ℕ) (u : Bytes b) where
   unread_exact c place = (λ h. go h decided, outcome-of c place)
     where
       go : (read_report b).outcome ≡ Refused c place → Decided b → Unread b c place
-      go h (in-form i) = let e = ap (λ (r : Reading). r.outcome) (form_read b i) in impossible (cc)
+      go h (in_form i) = let e = ap (λ (r : Reading). r.outcome) (form_read b i) in impossible (cc)
       go h (unread d at n) =
           let g = outcome-of d at n in
           let p : d ≡ c = cc in
@@ -257,7 +257,7 @@ module _ (b : List ℕ) (u : Bytes b) where
       go : (p : Bool) → ltb (length ls) n ≡ p → Unread b Malformed at
       go true e = no_line n ls at (x ∷ rest) a (ltb-true _ _ e) (λ l s. f.line (ap (λ (l : List ℕ). get_or l 0 0) s.bytes))
       go false e =
-          no-close n ls at (x ∷ rest) a (omega (arith, ltb-false (length ls) n e, a.announced)) (λ s. f.close (ap (λ (l : List ℕ). get_or l 0 0) s.bytes))
+          no_close n ls at (x ∷ rest) a (omega (arith, ltb-false (length ls) n e, a.announced)) (λ s. f.close (ap (λ (l : List ℕ). get_or l 0 0) s.bytes))
 
   pub foreign_refused : (x place : ℕ) (rest : List ℕ) → Sought b (x ∷ rest) place → Foreign x → (read_report b).outcome ≡ Refused Malformed place
   foreign_refused x place rest s f = outcome-of Malformed place (foreign-unread x place rest s f)

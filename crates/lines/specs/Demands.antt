@@ -89,8 +89,8 @@ pub data Unread (b : List ℕ) : Cause → ℕ → Type 0 where
   too_many : (n : ℕ) → StartsCount b n → 16 < n → Unread b Malformed 0
   no_line : (n : ℕ) (ls : List Line) (place : ℕ) (rest : List ℕ) → After b n ls place rest → length ls < n → ((l : Line) → StartsLine rest l → ⊥) → Unread b Malformed place
   of-line : (n : ℕ) (ls : List Line) (place : ℕ) (rest : List ℕ) (l : Line) (c : Cause) → After b n ls place rest → length ls < n → StartsLine rest l → OfRecord ls l c → Unread b c place
-  no-close : (n : ℕ) (ls : List Line) (place : ℕ) (rest : List ℕ) → After b n ls place rest → length ls ≡ n → (StartsClose rest → ⊥) → Unread b Malformed place
-  after-close : (n : ℕ) (ls : List Line) (place x : ℕ) (rest : List ℕ) → After b n ls place (close_kind ∷ x ∷ rest) → length ls ≡ n → Unread b Malformed (place + 1)
+  no_close : (n : ℕ) (ls : List Line) (place : ℕ) (rest : List ℕ) → After b n ls place rest → length ls ≡ n → (StartsClose rest → ⊥) → Unread b Malformed place
+  after_close : (n : ℕ) (ls : List Line) (place x : ℕ) (rest : List ℕ) → After b n ls place (close_kind ∷ x ∷ rest) → length ls ≡ n → Unread b Malformed (place + 1)
 
 -- a place where a record is looked for, and the bytes from there on
 pub data Sought (b rest : List ℕ) : ℕ → Type 0 where

@@ -1,5 +1,6 @@
 // A report read, written and asked: its lines, one after the other, as the reader sees their records. RULES, the report.
 #![tactic(auto)]
+
 ghost use Rattle.std.specs.Prelude.{◌≡◌, [], ◌++◌, ◌+◌, ◌*◌, ◌≤◌, length, take, drop};
 ghost use Rattle.flows.specs.Lists.{most_flows};
 ghost use Rattle.records.specs.Kinds.{count_record, line_record};

@@ -1,5 +1,6 @@
 // What refusals 7 and 8 ask of a flow of a set: the crossing test and the busy length.
 #![tactic(auto)]
+
 ghost use Rattle.std.specs.Prelude.{◌≡◌, ℕ, ◌*◌, ◌≤◌, ◌<◌, length};
 ghost use Rattle.least.specs.Lists.{values};
 ghost use Rattle.rules.specs.Judge.{busy_length, misplaced};

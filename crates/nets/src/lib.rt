@@ -1,5 +1,6 @@
 // A set of flows as lent numbers, read by flow and place. RULES, paths.
 #![tactic(auto)]
+
 ghost use Rattle.std.specs.Prelude.{◌≡◌, ◌+◌, ◌*◌, ◌≤◌, ◌<◌};
 ghost use Rattle.least.specs.Lists.{values};
 ghost use Rattle.nets.specs.Nets.{few, Whole, count_in, room_in, field_in, length_in, hop_in, path_in, position_of};

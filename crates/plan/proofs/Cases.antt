@@ -1,9 +1,9 @@
 -- Plans tried by hand: the refusal of the records that each gets, number and place, as one list under one statement.
-use Prim.Native.Nat.{ℕ, zero, suc, ◌+◌}
+use Prim.Native.Nat.{ℕ, zero, suc}
 use mathlib.Core.Path.{◌≡◌, refl}
 use mathlib.Core.Bool.{Bool, true, ◌&&◌}
 use mathlib.Core.List.{List, [], ◌∷◌, ◌++◌}
-use lib.ListN.{length, take, replicate}
+use lib.ListN.{take, replicate}
 use lib.Dec.{eqb}
 use Rattle.flows.specs.declared.Flow.{Flow}
 use Rattle.flows.specs.Refusals.{number_of}

@@ -25,7 +25,7 @@ use Rattle.flows.specs.declared.Outcome.TheVariants.{Refused}
 use Rattle.reader.specs.Places.{kind_at, if_kind}
 use Rattle.plan.specs.Reading.{flow_at, links_at, refused, listed, unless, falls_to, record_cause, read_end, read_flows, read_after_links, read_plan}
 use Rattle.row.proofs.Arrays.{held-row_of, append_list, length_snoc}
-use Rattle.reader.proofs.Places.{at_none, if_here, if_other, Other, other_kind, seen_here, seen_other, impossible}
+use Rattle.reader.proofs.Places.{at_none, if_here, if_other, seen_here, seen_other, impossible}
 
 pub refused_made : (cause : Cause) (place : ℕ) (row : Row) → row ≡ row_of [] →
     record { outcome = Refused cause place; set = record { lmin = 0; lmax = 0; row = row } } ≡ refused cause place
@@ -70,7 +70,7 @@ module _ (fs : List Flow) (f : Flow) (last : ℕ) (t : Bool) (e : last ≡ last_
 
 -- ---- the end
 module _ (lmin lmax : ℕ) (row : Row) (b : List ℕ) (at : ℕ) (k : Kind) (e : k ≡ kind_at b at) where
-  pub end_other : (r : Reading) → Other OfEnd k → r ≡ refused Malformed at → r ≡ read_end lmin lmax row b at
+  pub end_other : (r : Reading) → (k ≡ OfEnd → ⊥) → r ≡ refused Malformed at → r ≡ read_end lmin lmax row b at
   unfolding read_end
   end_other r o g = g ∙ sym (seen_other b at OfEnd _ _ k e o)
 
@@ -134,7 +134,7 @@ module _ (lmin lmax : ℕ) (row : Row) (b : List ℕ) (at : ℕ) (x : Reading) (
       ap (λ (r : Row). if_kind (kind_at b at) OfFlow (flow_here (most_flows - length (held row)) lmin lmax (held row) b at) (read_end lmin lmax r b at)) made ∙
       sym (flows_is (most_flows - length (held row)) lmin lmax (held row) b at) ∙ inv
 
-  pub flows_other : (k : Kind) (r : Reading) → k ≡ kind_at b at → Other OfFlow k → r ≡ read_end lmin lmax row b at → r ≡ x
+  pub flows_other : (k : Kind) (r : Reading) → k ≡ kind_at b at → (k ≡ OfFlow → ⊥) → r ≡ read_end lmin lmax row b at → r ≡ x
   flows_other k r e o g = g ∙ sym (seen_other b at OfFlow _ _ k e o) ∙ here
 
   pub flows_none : (r : Reading) → length b ≤ at → r ≡ read_end lmin lmax row b at → r ≡ x
@@ -186,8 +186,8 @@ module _ (b : List ℕ) where
   plan_at_other n = if_other (kind_at b 0) OfLinks _ _ n
 
 module _ (b : List ℕ) (k : Kind) (r : Reading) (e : k ≡ kind_at b 0) where
-  pub plan_other : Other OfLinks k → r ≡ refused Malformed 0 → r ≡ read_plan b
-  plan_other o g = g ∙ sym (plan_at_other b (λ h. other_kind OfLinks k o (e ∙ h)))
+  pub plan_other : (k ≡ OfLinks → ⊥) → r ≡ refused Malformed 0 → r ≡ read_plan b
+  plan_other o g = g ∙ sym (plan_at_other b (λ h. o (e ∙ h)))
 
   module _ (h : k ≡ OfLinks) (l : Links) (i : l ≡ links_at b 0) (cause : Cause) (j : cause ≡ delay_cause l.lmin l.lmax) (t : Bool) (m : t ≡ accepted_by cause) where
     fits : cause ≡ delay_cause (links_at b 0).lmin (links_at b 0).lmax

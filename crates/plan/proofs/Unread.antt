@@ -14,7 +14,7 @@ use Rattle.flows.specs.declared.Cause.TheVariants.{Accepted, Delays, Full, Malfo
 use Rattle.flows.specs.Refusals.{accepted_by}
 use Rattle.flows.specs.Lists.{most_flows}
 use Rattle.flows.specs.Tests.{delay_cause, flow_cause}
-use Rattle.flows.specs.WellFormed.{Exactly, WellFormed, OfDelays, delays-fit, delays-unfit, Typed}
+use Rattle.flows.specs.WellFormed.{Exactly, WellFormed, OfDelays, delays-fit, delays_unfit, Typed}
 use Rattle.row.specs.Rows.{last_number}
 use Rattle.records.specs.Kinds.{links_record, flow_record, end_kind}
 use Rattle.records.specs.Bodies.{Bytes}
@@ -46,9 +46,9 @@ record Taken (fs : List Flow) (f : Flow) : Type 0 where
   room : length fs < most_flows
 
 module _ (fs : List Flow) (f : Flow) (t : Typed f) where
-  of-record : Taken fs f ⊎ OfRecord fs f (record_cause fs f)
+  of_record : Taken fs f ⊎ OfRecord fs f (record_cause fs f)
   unfolding record_cause falls_to
-  of-record = go (eqb f.number 0) (leb f.number (last_number fs)) (accepted_by (flow_cause f)) (leb most_flows (length fs)) refl refl refl refl
+  of_record = go (eqb f.number 0) (leb f.number (last_number fs)) (accepted_by (flow_cause f)) (leb most_flows (length fs)) refl refl refl refl
     where
       itself : accepted_by (flow_cause f) ≡ false → (f.number ≡ 0) ⊎ (last_number fs < f.number) → OfRecord fs f (flow_cause f)
       itself k o = by_itself (flow_cause f) o (refused-never (flow_cause f) k) ((flow_exact f t (flow_cause f)).0 refl)
@@ -66,15 +66,15 @@ module _ (fs : List Flow) (f : Flow) (t : Typed f) where
       go false false true true i j k l = inr (no_room (leb-false _ _ j) (formed f t (accepted_only (flow_cause f) k)) (leb-true _ _ l))
       go false false true false i j k l = inl (record { flow = formed f t (accepted_only (flow_cause f) k); rises = leb-false _ _ j; room = leb-false _ _ l })
 
-  rises-in : (f.number ≡ 0) ⊎ (last_number fs < f.number) → falls_to f.number (last_number fs) ≡ false
-  rises-in (inl h) = sym (falls-zero f.number (last_number fs) h)
-  rises-in (inr h) = sym (falls_not f.number (last_number fs) h)
+  rises_in : (f.number ≡ 0) ⊎ (last_number fs < f.number) → falls_to f.number (last_number fs) ≡ false
+  rises_in (inl h) = sym (falls-zero f.number (last_number fs) h)
+  rises_in (inr h) = sym (falls_not f.number (last_number fs) h)
 
   record-only : (c : Cause) → OfRecord fs f c → (record_cause fs f ≡ c) × (accepted_by c ≡ false)
   unfolding record_cause
   record-only c (not-rising n h) = (rw (← falls-order f.number (last_number fs) n, le-leb _ _ h), refl)
-  record-only c (by_itself d o n x) = let e = not_accepted d n in (rw (rises-in o, (flow_exact f t d).1 x, e), e)
-  record-only c (no_room h w g) = (rw (rises-in (inr h), formed_passes f t w, le-leb _ _ g), refl)
+  record-only c (by_itself d o n x) = let e = not_accepted d n in (rw (rises_in o, (flow_exact f t d).1 x, e), e)
+  record-only c (no_room h w g) = (rw (rises_in (inr h), formed_passes f t w, le-leb _ _ g), refl)
 
 -- ---- the records that are not refused, and one more
 module _ {b : List ℕ} {fs : List Flow} {at : ℕ} {rest : List ℕ} (a : After b fs at rest) where
@@ -114,7 +114,7 @@ module _ {b : List ℕ} {fs : List Flow} {at : ℕ} {rest : List ℕ} (a : After
 
 -- ---- any bytes are in form, or one of their records is refused
 data Decided (b : List ℕ) : Type 0 where
-  in-form : InForm b → Decided b
+  in_form : InForm b → Decided b
   unread : (c : Cause) (place : ℕ) → Unread b c place → Decided b
 
 -- what goes with a refusal
@@ -131,7 +131,7 @@ module _ (b : List ℕ) (u : Bytes b) where
     ended : (x : List ℕ) → rest ≡ end_kind ∷ x → Decided b
     unfolding plan_bytes
     ended [] e =
-        in-form (record {
+        in_form (record {
           lmin = a.lmin;
           lmax = a.lmax;
           flows = fs;
@@ -148,7 +148,7 @@ module _ (b : List ℕ) (u : Bytes b) where
         tested s (inr o) = unread _ at (of-flow fs at rest (flow_at b at) _ a s o)
 
         go : (kind_at b at ≡ OfFlow) ⊎ (kind_at b at ≡ OfFlow → ⊥) → (kind_at b at ≡ OfEnd) ⊎ (kind_at b at ≡ OfEnd → ⊥) → Decided b
-        go (inl h) o = let s = flow_starts b at (after_rest a) u h in tested s (of-record fs (flow_at b at) s.typed)
+        go (inl h) o = let s = flow_starts b at (after_rest a) u h in tested s (of_record fs (flow_at b at) s.typed)
         go (inr n) (inl h) = let s = end_starts b at (after_rest a) h in ended s.rest s.bytes
         go (inr n) (inr m) = other m n
 
@@ -161,7 +161,7 @@ module _ (b : List ℕ) (u : Bytes b) where
   links-decided lmin lmax s = go (delay_cause lmin lmax) refl ((delays_exact lmin lmax (delay_cause lmin lmax)).0 refl)
     where
       go : (c : Cause) → delay_cause lmin lmax ≡ c → OfDelays lmin lmax c → Decided b
-      go c e (delays-unfit n) = unread Delays 0 (unfit-links lmin lmax s n)
+      go c e (delays_unfit n) = unread Delays 0 (unfit-links lmin lmax s n)
       go c e (delays-fit h) =
           after-decided most_flows {fs = []} {at = links_record} {rest = s.rest} refl (record {
             lmin = lmin;
@@ -183,7 +183,7 @@ module _ (b : List ℕ) (u : Bytes b) where
   unfolding unless
   gives c place (no-links n) = plan_at_other b (λ h. n _ _ (links_starts b u h))
   gives c place (unfit-links lmin lmax s n) =
-      plan_starts b lmin lmax s ∙ ap (λ (d : Cause). unless d 0 (read_after_links lmin lmax b)) ((delays_exact lmin lmax Delays).1 (delays-unfit n))
+      plan_starts b lmin lmax s ∙ ap (λ (d : Cause). unless d 0 (read_after_links lmin lmax b)) ((delays_exact lmin lmax Delays).1 (delays_unfit n))
   gives c place (no_record fs at rest a n m) =
       read_after a ∙ flows_at_other _ _ _ fs b at (λ h. n _ (flow_starts b at (after_rest a) u h)) (λ h. m (end_starts b at (after_rest a) h))
   gives c place (of-flow fs at rest f d a s o) =
@@ -220,7 +220,7 @@ module _ (b : List ℕ) (u : Bytes b) where
   place_inside = go decided
     where
       go : Decided b → Inside b (read_plan b)
-      go (in-form i) =
+      go (in_form i) =
           subst (Inside b) (sym (form_read b i))
           (record { place = (omega arith, omega arith); refuses = λ never. absurd (never refl); empty = λ never. absurd (never refl) })
       go (unread c place n) =
@@ -231,7 +231,7 @@ module _ (b : List ℕ) (u : Bytes b) where
   plan_form h = go decided
     where
       go : Decided b → InForm b
-      go (in-form i) = i
+      go (in_form i) = i
       go (unread c place n) = let e = outcome-of c place n in impossible (cc)
 
   -- What is refused is refused as the words say, and exactly then
@@ -239,7 +239,7 @@ module _ (b : List ℕ) (u : Bytes b) where
   unread_exact c place = (λ h. go h decided, outcome-of c place)
     where
       go : (read_plan b).outcome ≡ Refused c place → Decided b → Unread b c place
-      go h (in-form i) = let e = ap (λ (r : Reading). r.outcome) (form_read b i) in impossible (cc)
+      go h (in_form i) = let e = ap (λ (r : Reading). r.outcome) (form_read b i) in impossible (cc)
       go h (unread d at n) =
           let e = outcome-of d at n in
           let p : d ≡ c = cc in

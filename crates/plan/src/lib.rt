@@ -1,5 +1,6 @@
 // A plan read and written: its records, one after the other, as the reader sees them.
 #![tactic(auto)]
+
 ghost use Rattle.std.specs.Prelude.{◌≡◌, ◌++◌, ◌+◌, ◌*◌, ◌≤◌, length, take, drop};
 ghost use Rattle.flows.specs.Lists.{held};
 ghost use Rattle.records.specs.Kinds.{links_record, flow_record};

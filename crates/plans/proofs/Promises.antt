@@ -49,8 +49,8 @@ module _ (s : FlowSet) (w : WasRead s) where
   said = judged_cause s
 
   -- 7 to 10: each is given exactly when the rules say so, with the least flow at fault
-  judging-exact : Exact (set_answer s).cause (OfSet s)
-  judging-exact =
+  judging_exact : Exact (set_answer s).cause (OfSet s)
+  judging_exact =
       exact_from (OfSet s) (set_answer s).cause (subst (OfSet s) (sym said) (by-judgement (judged N) (judged_is N (set_valid s w)))) only
     where
       only : (c : Cause) → OfSet s c → c ≡ (set_answer s).cause
@@ -59,7 +59,7 @@ module _ (s : FlowSet) (w : WasRead s) where
 
   judges : SetJudged s (set_answer s)
   judges = record {
-    cause = judging-exact;
+    cause = judging_exact;
     place = judged_place s;
     accepted = λ a. judged_set s (ap accepted_by a);
     bytes = λ a. ap set_bytes (judged_set s (ap accepted_by a));

@@ -27,7 +27,7 @@ use Rattle.engine.specs.declared.Verdict.{Verdict}
 use Rattle.engine.specs.Verdicts.{refused, given, verdict_from, verdict_of}
 use Rattle.flows.specs.Tests.{delay_cause}
 use Rattle.table.specs.Calls.{empty_table, answered, unless, fresh_answer}
-use Rattle.table.specs.Made.{Made, by-fresh}
+use Rattle.table.specs.Made.{Made, by_fresh}
 use Rattle.table.proofs.Kept.{Right, cause_refuses, made-right}
 use Rattle.table.proofs.Sets.{right_made}
 use Rattle.plans.specs.Plans.{refused_plan, accepted_plan, decided_by, set_answer, answer_as, answer_to, plan_answer, set_of, table_bytes}
@@ -97,7 +97,7 @@ module _ (s : FlowSet) where
     where
       go : (q : Bool) → accepted_by (set_answer s).cause ≡ q → Made (set_answer s).table
       go true h = judged_made h p
-      go false h = subst Made (sym (judged_empty h)) (by-fresh 0 0)
+      go false h = subst Made (sym (judged_empty h)) (by_fresh 0 0)
 
 -- ---- written, then read and judged
 module _ (t : Table) (r : Right t) where
@@ -164,4 +164,4 @@ module _ (b : List ℕ) where
     unfolding fresh_answer unless answered delay_cause refused_plan
     answer_made =
         in_turn (λ g e. subst (λ (a : Answer). Made a.table) (sym e) (set_made s (read_proper s (record { bytes = b; fit = u; given = refl }))))
-        (λ never e. subst (λ (a : Answer). Made a.table) (sym e) (by-fresh 0 0))
+        (λ never e. subst (λ (a : Answer). Made a.table) (sym e) (by_fresh 0 0))

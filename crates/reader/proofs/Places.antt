@@ -1,21 +1,17 @@
 -- The table of kinds, a law for each way out, and what a kind says of the bytes at its place.
 use Prim.Native.Nat.{ℕ, ◌+◌, ◌-◌, ◌≤◌, ◌<◌}
 use mathlib.Core.Path.{◌≡◌, refl, sym, ap, ◌∙◌, subst}
-use mathlib.Core.Bool.{Bool, true, false, cond, not}
-use mathlib.Core.List.{List, [], ◌∷◌}
+use mathlib.Core.Bool.{Bool, true, false, cond}
+use mathlib.Core.List.{List}
 use mathlib.Core.Logic.{◌⊎◌, inl, inr}
 use native.Mathlib.Omega.{arith}
 use lib.ListN.{length, get_or}
 use lib.Dec.{T, leb, ltb, eqb}
 use borrow.Author.Tests.{eq-eqb, ne_eqb, lt-ltb, le-ltb, le-leb, lt-leb, eqb-true, eqb-false, ltb-false, leb-false}
-use mir.Val.{has_key}
-use types.Run.{OneOf, miss}
-use denote.Enum.Declared.{tag_of}
 use Rattle.records.specs.Kinds.{links_kind, flow_kind, end_kind, count_kind, line_kind, close_kind}
 use Rattle.reader.specs.declared.Kind.{Kind}
 use Rattle.reader.specs.declared.Kind.TheVariants.{OfLinks, OfFlow, OfEnd, OfCount, OfLine, OfClose, OfNone}
 use Rattle.reader.specs.Places.{byte_of, body_of, kind_named, kind_of, kind_at, if_kind}
-use Rattle.reader.specs.contracts.Kind.{the_type}
 
 -- ---- the table: a kind's byte names it, and no other byte does
 named_byte : (k : Kind) → kind_named (byte_of k) ≡ k
@@ -89,35 +85,13 @@ module _ {A : Type 0} (k w : Kind) (x y : A) where
   unfolding if_kind
   if_other n = rw (ne_eqb _ _ (λ h. n (same_kind k w h)))
 
--- what a `let .. else` knows of a kind that it did not match: its key is among the others
-abbrev others : ℕ → List ℕ → List ℕ
-others n [] = []
-others n (m ∷ l) = cond (eqb n m) (others n l) (m ∷ others n l)
-
-left_out : (n : ℕ) (l : List ℕ) → T (not (has_key (others n l) n))
-left_out n [] = tt
-left_out n (m ∷ l) = go (eqb n m) refl (left_out n l)
-  where
-    go : (p : Bool) → eqb n m ≡ p → T (not (has_key (others n l) n)) → T (not (has_key (cond p (others n l) (m ∷ others n l)) n))
-    go true e h = h
-    go false e h = rw (ne_eqb m n (λ q. eqb-false n m e (sym q))) h
-
-abbrev keys : List ℕ
-keys = 0 ∷ 1 ∷ 2 ∷ 3 ∷ 4 ∷ 5 ∷ 6 ∷ []
-
-abbrev pub Other : Kind → Kind → Type 0
-Other w k = OneOf (others (tag_of the_type w) keys) (tag_of the_type k)
-
-pub other_kind : (w k : Kind) → Other w k → k ≡ w → ⊥
-other_kind w k o e = miss (others (tag_of the_type w) keys) (tag_of the_type w) (left_out (tag_of the_type w) keys) (subst (Other w) e o)
-
 -- what follows from the kind that a caller saw
 module _ {A : Type 0} (b : List ℕ) (at : ℕ) (w : Kind) (x y : A) (k : Kind) (e : k ≡ kind_at b at) where
   pub seen_here : k ≡ w → if_kind (kind_at b at) w x y ≡ x
   seen_here h = if_here (kind_at b at) w x y (sym e ∙ h)
 
-  pub seen_other : Other w k → if_kind (kind_at b at) w x y ≡ y
-  seen_other o = if_other (kind_at b at) w x y (λ h. other_kind w k o (e ∙ h))
+  pub seen_other : (k ≡ w → ⊥) → if_kind (kind_at b at) w x y ≡ y
+  seen_other n = if_other (kind_at b at) w x y (λ h. n (e ∙ h))
 
 -- ---- a kind that was found: its byte and its whole body are there
 pub record Whole (b : List ℕ) (at : ℕ) (k : Kind) : Type 0 where

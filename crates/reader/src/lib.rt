@@ -1,5 +1,6 @@
 // The reader of plans and reports: the caller's bytes and a place in them. The work is done on a slice and a number; the reader's own functions are thin.
 #![tactic(auto)]
+
 ghost use Rattle.std.specs.Prelude.{◌≡◌};
 ghost use Rattle.reader.specs.Places.{kind_named, body_of, kind_of, kind_at};
 

@@ -1,5 +1,6 @@
 // The kinds of a plan's and of a report's records, and their bodies read and written; of a two-byte number the high byte comes first. RULES, the plan, the report.
 #![tactic(auto)]
+
 ghost use Rattle.std.specs.Prelude.{◌≡◌, ◌+◌, ◌*◌, ◌/◌, ◌%◌, ◌<◌, length};
 ghost use Rattle.records.specs.Kinds.{links_body, flow_body, flow_nodes, line_body};
 ghost use Rattle.records.specs.Bodies.{word_at, bytes_from, words_from, links_read, flow_read, links_written, head_written, words_written, flow_written, line_read, line_written};

@@ -58,9 +58,9 @@ line-flow (f ∷ fs) (g ∷ gs) l m =
     (mathlib.Core.List.Memᴰ.cases_cons m)
 
 module _ (t : Table) where
-  shown-for : (number : ℕ) → shown_at t.figures (found_in (held t.row) number) ≡ asked_for t number
+  shown_for : (number : ℕ) → shown_at t.figures (found_in (held t.row) number) ≡ asked_for t number
   unfolding asked_for asked_by
-  shown-for number = go (found_in (held t.row) number)
+  shown_for number = go (found_in (held t.row) number)
     where
       go : (x : Found) → shown_at t.figures x ≡ asked_by t x
       go Nothing = refl
@@ -76,7 +76,7 @@ module _ (t : Table) (m : Made t) where
       omega (arith, r.set.count, length-append (map as_figures gs) (replicate (most_flows - length gs) no_figures), length-map gs as_figures, length-replicate (most_flows - length gs) no_figures)
 
   pub asks : (number : ℕ) → asked_in (table_lines t) number ≡ asked_for t number
-  asks number = asks_alike (held t.row) t.figures number long ∙ shown-for t number
+  asks number = asks_alike (held t.row) t.figures number long ∙ shown_for t number
 
   rising : RisingBy (λ l. l.number) 0 (table_lines t)
   rising = lines_rising (held t.row) t.figures (made-right t m).set.rising
@@ -113,8 +113,8 @@ module _ (t : Table) (m : Made t) where
           },
         )
 
-  made-listable : Listable (table_lines t)
-  made-listable = record {
+  made_listable : Listable (table_lines t)
+  made_listable = record {
     rising = rising;
     count = omega (arith, lines-count (held t.row) t.figures long, (made-right t m).set.count);
     figures = each_from _ (table_lines t) (λ l h. (passes l h).0);
@@ -123,4 +123,4 @@ module _ (t : Table) (m : Made t) where
 
   -- the figures of a table pass 3, and its numbers rise
   pub made_order : InOrder (table_report t)
-  made_order = listed-order (table_lines t) made-listable
+  made_order = listed-order (table_lines t) made_listable

@@ -1,3 +1,3 @@
 -- The laws of `rounds`.
 pub mod Rounds
-pub mod Looks
+pub mod Windows

@@ -1,4 +1,4 @@
 -- The definitions of `rounds`.
 pub mod Reading
 pub mod Rounds
-pub mod Looks
+pub mod Windows

@@ -1,11 +1,12 @@
 // Which flows are to be worked out again: what rose, who reads it, whose turn is next.
 #![tactic(auto)]
+
 ghost use Rattle.std.specs.Prelude.{◌≡◌, true, false, ◌+◌, ◌*◌, ◌<◌, ◌≤◌, length};
 ghost use Rattle.nets.specs.Nets.{few, Whole, count_in, flow_in};
 ghost use Rattle.crossings.specs.Pairs.{Noted};
 ghost use Rattle.starts.specs.Runs.{Low, LowTo};
 ghost use Rattle.rounds.specs.Reading.{meets_equal, reads_flow, reads_own};
-ghost use Rattle.rounds.specs.Looks.{near_steps, reach_in, TurnsLeft, PutBack};
+ghost use Rattle.rounds.specs.Windows.{near_steps, reach_in, TurnsLeft};
 ghost use Rattle.rounds.specs.Rounds.{fresh_mark, RaisedIs, MarkedIs, ChosenIs};
 
 // The turns of a flow once something that it reads has risen: one near its peaks, two wider ones, then a full scan. A mark is the number of turns left.
@@ -24,7 +25,7 @@ fn above(a: u64, b: u64) -> u64
 }
 
 // The response bounds of a flow, at m places from that one on, raised to best; 0 if none rose.
-fn raise(replies: &mut [u64], best: &[u64], at: usize, m: usize) -> u64
+pub fn raise(replies: &mut [u64], best: &[u64], at: usize, m: usize) -> u64
     requires { (at ≤ 4000) × (m ≤ few) × (at + m ≤ length replies.old) × (m ≤ length best.now) × Low replies.old × LowTo m best.now }
     ensures { RaisedIs replies.old best.now at m replies.new result }
 {
@@ -80,7 +81,7 @@ pub fn reach(turns: u64, steps: u64, busy: u64) -> u64
 }
 
 // The turns left to a flow after one that looked so far to each side.
-fn turns_left(turns: u64, rose: u64, far: u64, busy: u64) -> u64
+pub fn turns_left(turns: u64, rose: u64, far: u64, busy: u64) -> u64
     ensures { TurnsLeft turns rose far busy result }
 {
     if busy <= far {
@@ -136,7 +137,7 @@ fn marked(mark: u64, read: bool) -> u64
 }
 
 // All turns anew for each flow that reads flow a.
-fn mark(net: &[u16], pairs: &[u8], marks: &mut [u64], a: usize)
+pub fn mark(net: &[u16], pairs: &[u8], marks: &mut [u64], a: usize)
     requires { Noted net.now pairs.now a a × (count_in net.now ≤ length marks.old) }
     ensures { MarkedIs marks.old net.now a (count_in net.now) marks.new }
 {
@@ -147,32 +148,6 @@ fn mark(net: &[u16], pairs: &[u8], marks: &mut [u64], a: usize)
         marks[b] = marked(marks[b], read);
         b += 1;
     }
-}
-
-// What a look so far to each side found of flow a, put back: its m response bounds from that place on raised, its turns left; and if one rose, its peaks,
-// as far behind the marks, and all turns anew for each flow that reads it.
-pub fn put_back(
-    net: &[u16],
-    pairs: &[u8],
-    replies: &mut [u64],
-    marks: &mut [u64],
-    best: &[u64],
-    a: usize,
-    at: usize,
-    m: usize,
-    far: u64,
-    busy: u64,
-)
-    requires { Noted net.now pairs.now a a × (at ≤ 4000) × (m ≤ few) × (at + m ≤ length replies.old) × (count_in net.now + at + m ≤ length marks.old) × (m + m ≤ length best.now) × Low replies.old × LowTo m best.now }
-    ensures { PutBack net.now replies.old marks.old best.now a at m far busy replies.new marks.new }
-{
-    let risen = raise(replies, best, at, m);
-    marks[a] = turns_left(marks[a], risen, far, busy);
-    if risen == 0 {
-        return;
-    }
-    least::copy(best, m, marks, nets::count(net) + at, m);
-    mark(net, pairs, marks, a);
 }
 
 // Whether b, which is after chosen, comes before it in the round that begins after last.

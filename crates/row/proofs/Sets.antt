@@ -19,7 +19,7 @@ use Rattle.flows.specs.WellFormed.{Exact, Each, each_none, each_more, Typed}
 use Rattle.row.specs.declared.Found.TheVariants.{At, Nothing}
 use Rattle.row.specs.Rows.{first_of, place_of, found_in, insert_sorted, without, entry_cause, RisingBy, Rising, rising_none, rising-more}
 use Rattle.flows.proofs.Causes.{accepted_only, not_accepted, refused-never}
-use Rattle.row.specs.Sets.{Lacks, Enters, OfEntry, by_itself, number-taken, no_room, let-in}
+use Rattle.row.specs.Sets.{Lacks, Enters, OfEntry, by_itself, number_taken, no_room, let_in}
 use Rattle.flows.proofs.Passed.{exact_from, exact_as, flow_exact, formed, formed_passes}
 
 -- ---- insertion and removal keep the numbers rising
@@ -220,17 +220,17 @@ module _ (fs : List Flow) (f : Flow) where
   entry-itself e = rw e
 
   module _ (e : flow_cause f ≡ Accepted) where
-    entry-taken : place_of f.number fs < length fs → Present ≡ entry_cause fs f
+    entry_taken : place_of f.number fs < length fs → Present ≡ entry_cause fs f
     unfolding entry_cause
-    entry-taken h = rw (e, lt-ltb _ _ h)
+    entry_taken h = rw (e, lt-ltb _ _ h)
 
-    entry-filled : length fs ≤ place_of f.number fs → most_flows ≤ length fs → Full ≡ entry_cause fs f
+    entry_filled : length fs ≤ place_of f.number fs → most_flows ≤ length fs → Full ≡ entry_cause fs f
     unfolding entry_cause
-    entry-filled h g = rw (e, le-ltb _ _ h, le-leb _ _ g)
+    entry_filled h g = rw (e, le-ltb _ _ h, le-leb _ _ g)
 
-    entry-let-in : length fs ≤ place_of f.number fs → length fs < most_flows → Accepted ≡ entry_cause fs f
+    entry_let_in : length fs ≤ place_of f.number fs → length fs < most_flows → Accepted ≡ entry_cause fs f
     unfolding entry_cause
-    entry-let-in h g = rw (e, le-ltb _ _ h, lt-leb _ _ g)
+    entry_let_in h g = rw (e, le-ltb _ _ h, lt-leb _ _ g)
 
   module _ (t : Typed f) where
     of_entry : OfEntry fs f (entry_cause fs f)
@@ -244,29 +244,29 @@ module _ (fs : List Flow) (f : Flow) where
         go true true r i j k =
             let e = accepted_only (flow_cause f) i in
             let h = ltb-true _ _ j in
-            subst (OfEntry fs f) (entry-taken e h) (number-taken (formed f t e) (taken_place f.number fs h))
+            subst (OfEntry fs f) (entry_taken e h) (number_taken (formed f t e) (taken_place f.number fs h))
         go true false true i j k =
             let e = accepted_only (flow_cause f) i in
             let h = ltb-false _ _ j in
             let g = leb-true _ _ k in
-            subst (OfEntry fs f) (entry-filled e h g) (no_room (formed f t e) (lacks-all f.number fs h) g)
+            subst (OfEntry fs f) (entry_filled e h g) (no_room (formed f t e) (lacks-all f.number fs h) g)
         go true false false i j k =
             let e = accepted_only (flow_cause f) i in
             let h = ltb-false _ _ j in
             let g = leb-false _ _ k in
-            subst (OfEntry fs f) (entry-let-in e h g) (let-in (record { flow = formed f t e; lacks = lacks-all f.number fs h; room = g }))
+            subst (OfEntry fs f) (entry_let_in e h g) (let_in (record { flow = formed f t e; lacks = lacks-all f.number fs h; room = g }))
 
     entry-only : (c : Cause) → OfEntry fs f c → c ≡ entry_cause fs f
     entry-only c (by_itself d n o) =
         let e = (flow_exact f t d).1 o in
         sym e ∙ entry-itself (ap accepted_by e ∙ not_accepted d n)
-    entry-only c (number-taken w n) = entry-taken (formed_passes f t w) (go (ltb (place_of f.number fs) (length fs)) refl)
+    entry-only c (number_taken w n) = entry_taken (formed_passes f t w) (go (ltb (place_of f.number fs) (length fs)) refl)
       where
         go : (b : Bool) → ltb (place_of f.number fs) (length fs) ≡ b → place_of f.number fs < length fs
         go true h = ltb-true _ _ h
         go false h = absurd (n (lacks-all f.number fs (ltb-false _ _ h)))
-    entry-only c (no_room w l g) = entry-filled (formed_passes f t w) (lacks_place f.number fs l) g
-    entry-only c (let-in n) = entry-let-in (formed_passes f t n.flow) (lacks_place f.number fs n.lacks) n.room
+    entry-only c (no_room w l g) = entry_filled (formed_passes f t w) (lacks_place f.number fs l) g
+    entry-only c (let_in n) = entry_let_in (formed_passes f t n.flow) (lacks_place f.number fs n.lacks) n.room
 
     -- Refusals 2 to 6: each is given exactly when the rules say so
     pub entry_exact : Exact (entry_cause fs f) (OfEntry fs f)
@@ -280,7 +280,7 @@ module _ (fs : List Flow) (f : Flow) where
       where
         go : OfEntry fs f Accepted → Enters fs f
         go (by_itself c n o) = absurd (n refl)
-        go (let-in n) = n
+        go (let_in n) = n
 
     pub entered : Enters fs f → entry_cause fs f ≡ Accepted
-    entered n = (entry_exact Accepted).1 (let-in n)
+    entered n = (entry_exact Accepted).1 (let_in n)

@@ -27,6 +27,6 @@ pub record Enters (fs : List Flow) (f : Flow) : Type 0 where
 -- the lowest refusal from 2 to 6 that applies
 pub data OfEntry (fs : List Flow) (f : Flow) : Cause → Type 0 where
   by_itself : (c : Cause) → (c ≡ Accepted → ⊥) → OfFlow f c → OfEntry fs f c
-  number-taken : WellFormed f → (Lacks f.number fs → ⊥) → OfEntry fs f Present
+  number_taken : WellFormed f → (Lacks f.number fs → ⊥) → OfEntry fs f Present
   no_room : WellFormed f → Lacks f.number fs → 16 ≤ length fs → OfEntry fs f Full
-  let-in : Enters fs f → OfEntry fs f Accepted
+  let_in : Enters fs f → OfEntry fs f Accepted

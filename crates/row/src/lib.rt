@@ -1,5 +1,6 @@
 // The flows of a table in rising number: found, put in, taken out.
 #![tactic(auto)]
+
 ghost use Rattle.std.specs.Prelude.{◌≡◌, List, [], ◌++◌, ◌+◌, ◌-◌, ◌≤◌, ◌<◌, length, take, drop};
 ghost use Rattle.flows.specs.declared.Flow.{Flow};
 ghost use Rattle.flows.specs.Lists.{most_flows, held, row_of};

@@ -24,29 +24,29 @@ module _ (N : Net) (i : Flow) (S S' : Arrivals) (agree : Agree N i S S') where
     | inr p ↦ ap (λ x. x * s) (h p)
   ]
 
-  packets-agree : (u h : ℕ) (x : ℕ → ℕ) (w : ℕ) (j : Crossing) → Memᴰ j (crossings N i) → (ρ : Role) → role i j.flow ≡ ρ →
+  packets_agree : (u h : ℕ) (x : ℕ → ℕ) (w : ℕ) (j : Crossing) → Memᴰ j (crossings N i) → (ρ : Role) → role i j.flow ≡ ρ →
       let P = prefix h i.path in packets N i S P h u x w j ρ * weight P j ≡ packets N i S' P h u x w j ρ * weight P j
   unfolding packets term1 term2 plus_a weight
-  packets-agree u h x w j m Own q = refl
-  packets-agree u h x w j m Higher q =
+  packets_agree u h x w j m Own q = refl
+  packets_agree u h x w j m Higher q =
       let P = prefix h i.path in
       let l = last_on h P j.part in
       product _ _ _ _ (slowest-prefix h i.path j.part)
       (λ p. ap (λ s. count (pick (eqb l h) w (x l) + (s + j.flow.jitter)) (smin N j.flow l + less_a N i P j) j.flow.period)
       (agree.higher j m p q (first_on P j.part)))
-  packets-agree u h x w j m Equal q =
+  packets_agree u h x w j m Equal q =
       let P = prefix h i.path in
       let g = first_on j.part P in
       product _ _ _ _ (slowest-prefix h i.path j.part)
       (λ p. ap₂ (λ s t. count (u + s + (t + j.flow.jitter)) (i.jitter + smin N j.flow g + less_a N i P j) j.flow.period)
       (agree.own j m p q g) (agree.equal j m p q (first_on P j.part)))
-  packets-agree u h x w j m Lower q = refl
+  packets_agree u h x w j m Lower q = refl
 
-  sum-agree : (u h : ℕ) (x : ℕ → ℕ) (w : ℕ) → sum N i S u h x w ≡ sum N i S' u h x w
+  sum_agree : (u h : ℕ) (x : ℕ → ℕ) (w : ℕ) → sum N i S u h x w ≡ sum N i S' u h x w
   unfolding sum others
-  sum-agree u h x w = omega (
+  sum_agree u h x w = omega (
     arith,
-    sum_ext _ _ (crossings N i) (λ j m. packets-agree u h x w j m (role i j.flow) refl),
+    sum_ext _ _ (crossings N i) (λ j m. packets_agree u h x w j m (role i j.flow) refl),
   )
 
   -- so the response bounds agree
@@ -57,8 +57,8 @@ module _ (N : Net) (i : Flow) (S S' : Arrivals) (agree : Agree N i S S') where
         W = r.W;
         start = λ u k q. record {
           from = (r.start u k q).from;
-          fixed = sum-agree u k (r.W u) (r.W u k) ∙ (r.start u k q).fixed;
-          lowest = λ v l e. (r.start u k q).lowest v l (sym (sum-agree u k (r.W u) v) ∙ e);
+          fixed = sum_agree u k (r.W u) (r.W u k) ∙ (r.start u k q).fixed;
+          lowest = λ v l e. (r.start u k q).lowest v l (sym (sum_agree u k (r.W u) v) ∙ e);
         };
         greatest = r.greatest;
       })

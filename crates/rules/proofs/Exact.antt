@@ -14,7 +14,7 @@ use Rattle.least.specs.Fold.{sum_of}
 use Rattle.least.proofs.Count.{pick-le, count_some}
 use Rattle.least.proofs.Fold.{false_true, sum_le, max_le, only_le}
 use Rattle.rules.specs.Net.{Hop, Flow, Net}
-use Rattle.rules.specs.Formula.{visits, prefix, last_node, least, there, cost_at, Arrivals, slowest, own_weight, slowest_node, others, term3, greatestCost, term4, term5, term6, sum, jitter_of}
+use Rattle.rules.specs.Formula.{visits, prefix, last_node, least, there, cost_at, Arrivals, slowest, own_weight, slowest_node, others, term3, greatest_cost, term4, term5, term6, sum, jitter_of}
 use Rattle.rules.specs.Meaning.{On, IsBound}
 use Rattle.rules.specs.Valid.{Distinct, InRange}
 use Rattle.rules.proofs.Path.{visits_here, visits-there, visits-cases, visits_member, last_visited, slowest_at}
@@ -67,8 +67,8 @@ prefix_last (k ∷ (m ∷ ms)) d = go (eqb k.node (last_node (m ∷ ms))) refl (
         false_true (sym d.0 ∙ ap (visits (m ∷ ms)) (eqb-true k.node (last_node (m ∷ ms)) q) ∙ last_visited (m ∷ ms) (omega arith))
     go false q e = ap (λ l. k ∷ l) e
 
-greatest_own : (N : Net) (i : Flow) (P : List Hop) (k : Hop) → k.cost ≤ greatestCost N i P k
-unfolding greatestCost
+greatest_own : (N : Net) (i : Flow) (P : List Hop) (k : Hop) → k.cost ≤ greatest_cost N i P k
+unfolding greatest_cost
 greatest_own N i P k = omega arith
 
 -- all costs but at one node s, and what covers the cost at s, cover all costs
@@ -108,7 +108,7 @@ costs_covered N i d = omega (
   arith,
   one_out (slowest_node i.path i) (slowest i.path i.path) i.path d (λ k m. slowest_at i.path m (visits_member m)),
   sum_le (λ k. pick (eqb k.node (slowest_node i.path i)) 0 k.cost)
-      (λ k. pick (eqb k.node (slowest_node i.path i)) 0 (greatestCost N i i.path k)) i.path
+      (λ k. pick (eqb k.node (slowest_node i.path i)) 0 (greatest_cost N i i.path k)) i.path
       (λ k m. pick-le (eqb k.node (slowest_node i.path i)) (le_refl 0) (greatest_own N i i.path k)),
 )
 

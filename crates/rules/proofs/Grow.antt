@@ -15,7 +15,7 @@ use Rattle.least.specs.Vector.{◌⊑◌}
 use Rattle.least.proofs.Count.{pick-le, count_grows}
 use Rattle.least.proofs.Fold.{sum_le, sum_add, sum_sublist, max_le, max_sublist, min_sublist, only_le, sublist-map}
 use Rattle.rules.specs.Net.{Hop, Flow, Net}
-use Rattle.rules.specs.Formula.{Role, Own, Higher, Equal, Lower, role, higher_or_equal, visits, prefix, before, first_on, last_on, cost_at, Crossing, crossings, smin, Arrivals, along, least_cost, M, slowest, weight, own_weight, slowest_node, plus_a, less_a, term1, term2, packets, others, term3, greatestCost, term4, lowerCost, term5, term6, sum, load}
+use Rattle.rules.specs.Formula.{Role, Own, Higher, Equal, Lower, role, higher_or_equal, visits, prefix, before, first_on, last_on, cost_at, Crossing, crossings, smin, Arrivals, along, least_cost, M, slowest, weight, own_weight, slowest_node, plus_a, less_a, term1, term2, packets, others, term3, greatest_cost, term4, lower_cost, term5, term6, sum, load}
 use Rattle.rules.proofs.Path.{prefix-visits, last-cases}
 
 -- A part of a set: some of its flows, and links at least as slow at best and at most as slow at worst.
@@ -77,16 +77,16 @@ module _ (N N' : Net) (i : Flow) (part : Part N N') (periods : (j : Flow) → Me
   unfolding M
   M-part h = sum_le _ _ (before h i.path) (λ k m. omega (arith, part.lmin, least-part k))
 
-  greatest-part : (P : List Hop) (k : Hop) → greatestCost N i P k ≤ greatestCost N' i P k
-  unfolding greatestCost
+  greatest-part : (P : List Hop) (k : Hop) → greatest_cost N i P k ≤ greatest_cost N' i P k
+  unfolding greatest_cost
   greatest-part P k = omega (arith, max_sublist (only (along i P) (λ j. cost_at j.part k.node)) crossings-part)
 
   term4-part : (P : List Hop) → term4 N i P ≤ term4 N' i P
   unfolding term4
   term4-part P = sum_le _ _ P (λ k m. pick-le (eqb k.node (slowest_node P i)) (le_refl 0) (greatest-part P k))
 
-  lower-part : (k : Hop) → lowerCost N i k - 1 ≤ lowerCost N' i k - 1
-  unfolding lowerCost
+  lower-part : (k : Hop) → lower_cost N i k - 1 ≤ lower_cost N' i k - 1
+  unfolding lower_cost
   lower-part k = less_one (max_sublist _ crossings-part)
     where
       less_one : {a b : ℕ} → a ≤ b → a - 1 ≤ b - 1
@@ -132,25 +132,25 @@ module _ (N N' : Net) (i : Flow) (part : Part N N') (periods : (j : Flow) → Me
     unfolding less_a
     less-le j = M-part (first_on P j.part)
 
-    packets-grow : (j : Crossing) → 0 < j.flow.period → (r : Role) →
+    packets_grow : (j : Crossing) → 0 < j.flow.period → (r : Role) →
         packets N i S P h u x w j r * weight P j
         ≤ packets N' i S' P h u' x' w' j r * weight P j + pick (higher_or_equal r) (ceil c j.flow.period * weight i.path j) 0
     unfolding packets term1 term2 weight
-    packets-grow j p Own = omega arith
-    packets-grow j p Higher =
+    packets_grow j p Own = omega arith
+    packets_grow j p Higher =
         scaled _ _ _ (slowest-prefix h i.path j.part)
         (count_grows _ _ _ _ c _ p (omega (arith, at_last j, plus-le j, less-le j, smin-part j.flow (last_on h P j.part))))
-    packets-grow j p Equal =
+    packets_grow j p Equal =
         scaled _ _ _ (slowest-prefix h i.path j.part)
         (count_grows _ _ _ _ c _ p
         (omega (arith, hS (i.number, first_on j.part P), plus-le j, less-le j, smin-part j.flow (first_on j.part P))))
-    packets-grow j p Lower = omega arith
+    packets_grow j p Lower = omega arith
 
-    others-grow : others N i S P h u x w ≤ others N' i S' P h u' x' w' + others_load N i c
+    others_grow : others N i S P h u x w ≤ others N' i S' P h u' x' w' + others_load N i c
     unfolding others others_load
-    others-grow =
+    others_grow =
         le_trans
-        (sum_le _ _ (crossings N i) (λ j m. packets-grow j (periods j.flow (crossing-flow N i m)) (role i j.flow)))
+        (sum_le _ _ (crossings N i) (λ j m. packets_grow j (periods j.flow (crossing-flow N i m)) (role i j.flow)))
         (omega (
           arith,
           sum_add (λ j. packets N' i S' P h u' x' w' j (role i j.flow) * weight P j)
@@ -158,16 +158,16 @@ module _ (N N' : Net) (i : Flow) (part : Part N N') (periods : (j : Flow) → Me
           sum_sublist (λ j. packets N' i S' P h u' x' w' j (role i j.flow) * weight P j) crossings-part,
         ))
 
-    term3-grow : 0 < i.period → term3 i P u ≤ term3 i P u' + ceil c i.period * own_weight i.path i
+    term3_grow : 0 < i.period → term3 i P u ≤ term3 i P u' + ceil c i.period * own_weight i.path i
     unfolding term3 own_weight
-    term3-grow p = scaled _ _ _ (slowest-prefix h i.path i.path) (count_grows u 0 u' 0 c i.period p (omega arith))
+    term3_grow p = scaled _ _ _ (slowest-prefix h i.path i.path) (count_grows u 0 u' 0 c i.period p (omega arith))
 
     pub sum_grows : 0 < i.period → sum N i S u h x w ≤ sum N' i S' u' h x' w' + load N i c
     unfolding sum
-    sum_grows p = omega (arith, others-grow, term3-grow p, term4-part P, term5-part P, term6-part P, load_is N i c)
+    sum_grows p = omega (arith, others_grow, term3_grow p, term4-part P, term5-part P, term6-part P, load_is N i c)
 
     -- where the instant stays, the flow itself brings nothing
     pub sum_grows_slower : u ≡ u' → sum N i S u h x w ≤ sum N' i S' u' h x' w' + others_load N i c
     unfolding sum term3
     sum_grows_slower e =
-        omega (arith, others-grow, ap (λ v. count v 0 i.period * own_weight P i) e, term4-part P, term5-part P, term6-part P)
+        omega (arith, others_grow, ap (λ v. count v 0 i.period * own_weight P i) e, term4-part P, term5-part P, term6-part P)

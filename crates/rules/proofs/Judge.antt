@@ -19,7 +19,7 @@ use Rattle.rules.specs.Ready.{Sound, Ready}
 use Rattle.rules.proofs.Path.{last_visited}
 use Rattle.rules.proofs.Busy.{busy_is, busy_none, busy_unique}
 use Rattle.rules.proofs.Start.{response_is, response_rises}
-use Rattle.rules.proofs.Settle.{least-settled_unique}
+use Rattle.rules.proofs.Settle.{least_settled_unique}
 use Rattle.rules.proofs.Crossing.{placed_permitted, misplaced_broken}
 use Rattle.rules.proofs.Valid.{sound}
 use Rattle.rules.proofs.Rounds.{settle_past, settle_least}
@@ -79,13 +79,13 @@ module _ (N : Net) where
       here = f.here;
       number = refl;
       fault = fault f.flow f.here f.fails;
-      lowest = λ j m bad. f.lowest j m (at-fault j m bad);
+      lowest = λ j m bad. f.lowest j m (at_fault j m bad);
     }))
     | inr n ↦ subst (Lowest N k AtFault Next) (sym (n.given (Refused k) other)) (passes other (λ i m bad. clear i m (n.each i m) bad) (next n.each))
   ]
     where
-      at-fault : (j : Flow) → Here N j → AtFault j → p j ≡ true
-      at-fault j m bad = go (p j) refl
+      at_fault : (j : Flow) → Here N j → AtFault j → p j ≡ true
+      at_fault j m bad = go (p j) refl
         where
           go : (b : Bool) → p j ≡ b → p j ≡ true
           go true e = e
@@ -135,10 +135,10 @@ module _ (N : Net) where
       settles_is v (λ i m. record { sound = sound N v i m; busy = ltb-false horizon (busy_length N i) (light i m) })))
 
   -- two that are meant are equal
-  lowest-unique : (k : ℕ) (AtFault : Flow → Type 0) (Next : Judgement → Type 0) →
+  lowest_unique : (k : ℕ) (AtFault : Flow → Type 0) (Next : Judgement → Type 0) →
       (((i : Flow) → Here N i → AtFault i → ⊥) → (v w : Judgement) → Next v → Next w → v ≡ w) →
       (v w : Judgement) → Lowest N k AtFault Next v → Lowest N k AtFault Next w → v ≡ w
-  lowest-unique k AtFault Next u v w (applies n a) (applies m b) =
+  lowest_unique k AtFault Next u v w (applies n a) (applies m b) =
       ap (Refused k) (omega (
         arith,
         a.number,
@@ -146,22 +146,22 @@ module _ (N : Net) where
         a.lowest b.flow b.here b.fault,
         b.lowest a.flow a.here a.fault,
       ))
-  lowest-unique k AtFault Next u v w (applies n a) (passes x c q) = absurd (c a.flow a.here a.fault)
-  lowest-unique k AtFault Next u v w (passes x c q) (applies n a) = absurd (c a.flow a.here a.fault)
-  lowest-unique k AtFault Next u v w (passes x c q) (passes y d r) = u c v w q r
+  lowest_unique k AtFault Next u v w (applies n a) (passes x c q) = absurd (c a.flow a.here a.fault)
+  lowest_unique k AtFault Next u v w (passes x c q) (applies n a) = absurd (c a.flow a.here a.fault)
+  lowest_unique k AtFault Next u v w (passes x c q) (passes y d r) = u c v w q r
 
   -- the same faults and what comes next under other names
-  lowest-as : (k : ℕ) (AtFault AtFault' : Flow → Type 0) (Next Next' : Judgement → Type 0) →
+  lowest_as : (k : ℕ) (AtFault AtFault' : Flow → Type 0) (Next Next' : Judgement → Type 0) →
       ((i : Flow) → Here N i → AtFault i → AtFault' i) → ((i : Flow) → Here N i → AtFault' i → AtFault i) → ((v : Judgement) → Next v → Next' v) →
       (v : Judgement) → Lowest N k AtFault Next v → Lowest N k AtFault' Next' v
-  lowest-as k AtFault AtFault' Next Next' to from next v (applies n a) = applies n (record {
+  lowest_as k AtFault AtFault' Next Next' to from next v (applies n a) = applies n (record {
     flow = a.flow;
     here = a.here;
     number = a.number;
     fault = to a.flow a.here a.fault;
     lowest = λ j m bad. a.lowest j m (from j m bad);
   })
-  lowest-as k AtFault AtFault' Next Next' to from next v (passes x c q) = passes x (λ i m bad. c i m (from i m bad)) (next x q)
+  lowest_as k AtFault AtFault' Next Next' to from next v (passes x c q) = passes x (λ i m bad. c i m (from i m bad)) (next x q)
 
   same-figures : (S S' : Arrivals) → ((k : ℕ × ℕ) → S k ≡ S' k) → (i : Flow) → Sound N i → On i (last_node i.path) →
       (f f' : Figures) → IsFigures N S i f → IsFigures N S' i f' → f ≡ f'
@@ -183,17 +183,17 @@ module _ (N : Net) where
   settles_unique val v w (unsettled a) (settled x S f l p q) = absurd (a S l.settled)
   settles_unique val v w (settled x S f l p q) (unsettled a) = absurd (a S l.settled)
   settles_unique val v w (settled x S f l p q) (settled y S' f' l' p' q') =
-      lowest-unique 10 _ _ (λ c a b r s. r ∙ sym s) v w q
-      (lowest-as 10 _ _ _ _ (λ i m h. omega (arith, ap (λ g. g.bound) (same i m))) (λ i m h. omega (arith, ap (λ g. g.bound) (same i m)))
+      lowest_unique 10 _ _ (λ c a b r s. r ∙ sym s) v w q
+      (lowest_as 10 _ _ _ _ (λ i m h. omega (arith, ap (λ g. g.bound) (same i m))) (λ i m h. omega (arith, ap (λ g. g.bound) (same i m)))
       (λ a r. r ∙ ap Given (all N.flows (λ i m. sym (same i m)))) w q')
     where
       same : (i : Flow) → Here N i → f i ≡ f' i
       same i m =
-          same-figures S S' (least-settled_unique N S S' l l') i (sound N val i m) (last_visited i.path (val.flows i m).nodes) (f i) (f' i) (p i m) (p' i m)
+          same-figures S S' (least_settled_unique N S S' l l') i (sound N val i m) (last_visited i.path (val.flows i m).nodes) (f i) (f' i) (p i m) (p' i m)
 
       all : (l : List Flow) → ((i : Flow) → Memᴰ i l → f' i ≡ f i) → map f' l ≡ map f l
       all [] e = refl
       all (i ∷ l) e = ap₂ (λ a b. a ∷ b) (e i (Memᴰ.head refl)) (all l (λ j m. e j (Memᴰ.tail m)))
 
   pub judged_unique : Valid N → (v w : Judgement) → Judged N v → Judged N w → v ≡ w
-  judged_unique val = lowest-unique 7 _ _ (λ c. lowest-unique 8 _ _ (λ d. settles_unique val))
+  judged_unique val = lowest_unique 7 _ _ (λ c. lowest_unique 8 _ _ (λ d. settles_unique val))

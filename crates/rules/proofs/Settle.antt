@@ -126,5 +126,5 @@ module _ (N : Net) (ready : (i : Flow) → Here N i → Ready N i) where
       least_of next_rising fixed (λ U d k. le_trans (s.lowest r.0 r.2.settled k) (r.1.lowest U d k))
 
 -- unique entry by entry
-pub least-settled_unique : (N : Net) (S U : Arrivals) → LeastSettled N S → LeastSettled N U → (k : Key) → S k ≡ U k
-least-settled_unique N S U s u k = omega (arith, s.lowest U u.settled k, u.lowest S s.settled k)
+pub least_settled_unique : (N : Net) (S U : Arrivals) → LeastSettled N S → LeastSettled N U → (k : Key) → S k ≡ U k
+least_settled_unique N S U s u k = omega (arith, s.lowest U u.settled k, u.lowest S s.settled k)

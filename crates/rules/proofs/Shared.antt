@@ -57,18 +57,18 @@ module _ (I : List Hop) where
     first_of_shared = unchanged (λ l. first_on l P) (λ k r. pick (visits P k.node) k.node r) (λ k l. refl) (λ k r e. rw (outside k.node e))
 
 -- the first and the last node of a, where every node of a is on I
-pub first-on_shared : (I a l : List Hop) → ((k : Hop) → Memᴰ k a → visits I k.node ≡ true) → first_on a (shared I l) ≡ first_on a l
+pub first_on_shared : (I a l : List Hop) → ((k : Hop) → Memᴰ k a → visits I k.node ≡ true) → first_on a (shared I l) ≡ first_on a l
 unfolding first_on
-first-on_shared I [] l h = refl
-first-on_shared I (k ∷ a) l h =
-    ap₂ (λ b r. pick b k.node r) (visits_shared I k.node (h k (Memᴰ.head refl)) l) (first-on_shared I a l (λ m q. h m (Memᴰ.tail q)))
+first_on_shared I [] l h = refl
+first_on_shared I (k ∷ a) l h =
+    ap₂ (λ b r. pick b k.node r) (visits_shared I k.node (h k (Memᴰ.head refl)) l) (first_on_shared I a l (λ m q. h m (Memᴰ.tail q)))
 
-pub last-on_shared : (I a l : List Hop) (d : ℕ) → ((k : Hop) → Memᴰ k a → visits I k.node ≡ true) → last_on d a (shared I l) ≡ last_on d a l
+pub last_on_shared : (I a l : List Hop) (d : ℕ) → ((k : Hop) → Memᴰ k a → visits I k.node ≡ true) → last_on d a (shared I l) ≡ last_on d a l
 unfolding last_on
-last-on_shared I [] l d h = refl
-last-on_shared I (k ∷ a) l d h =
+last_on_shared I [] l d h = refl
+last_on_shared I (k ∷ a) l d h =
     ap (λ b. last_on (pick b k.node d) a (shared I l)) (visits_shared I k.node (h k (Memᴰ.head refl)) l)
-    ∙ last-on_shared I a l (pick (visits l k.node) k.node d) (λ m q. h m (Memᴰ.tail q))
+    ∙ last_on_shared I a l (pick (visits l k.node) k.node d) (λ m q. h m (Memᴰ.tail q))
 
 -- the slowest cost of a flow that does not cross is 0
 pub uncrossed_nothing : (P l : List Hop) → crosses P l ≡ false → slowest P l ≡ 0

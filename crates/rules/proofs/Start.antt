@@ -28,20 +28,20 @@ module _ (N : Net) (i : Flow) (ok : Sound N i) where
         load_zero N i ok,
       )
 
-  rises-alone : (S : Arrivals) (u : ℕ) → Within (order i) 0 (sum N i S u) (sum N i S u)
-  rises-alone S u = sum_rising S S (λ k. le_refl _) u u (le_refl _)
+  rises_alone : (S : Arrivals) (u : ℕ) → Within (order i) 0 (sum N i S u) (sum N i S u)
+  rises_alone S u = sum_rising S S (λ k. le_refl _) u u (le_refl _)
 
   -- the starting times that are meant are those of the path's order
   pub starts_meant : (S : Arrivals) (W : ℕ → ℕ → ℕ) → ((u : ℕ) → Starts (order i) (sum N i S u) (W u)) → IsStart N i S W
   starts_meant S W s u h o = least_from-zero (s u h o)
 
   pub meant_starts : (S : Arrivals) (W : ℕ → ℕ → ℕ) → IsStart N i S W → (u : ℕ) → Starts (order i) (sum N i S u) (W u)
-  meant_starts S W s u h o = from-zero-least (sum_rises (order i) (sum N i S u) (rises-alone S u) h o (W u)) (s u h o)
+  meant_starts S W s u h o = from-zero-least (sum_rises (order i) (sum N i S u) (rises_alone S u) h o (W u)) (s u h o)
 
   -- unique, and rising with t and S
   pub start_unique : (S : Arrivals) (W W' : ℕ → ℕ → ℕ) → IsStart N i S W → IsStart N i S W' → (u h : ℕ) → On i h → W u h ≡ W' u h
   start_unique S W W' s s' u h o =
-      starts_unique (order i) (sum N i S u) (W u) (W' u) (rises-alone S u) (meant_starts S W s u) (meant_starts S W' s' u) h o
+      starts_unique (order i) (sum N i S u) (W u) (W' u) (rises_alone S u) (meant_starts S W s u) (meant_starts S W' s' u) h o
 
   pub start_rises : (S S' : Arrivals) → S ⊑ S' → (W W' : ℕ → ℕ → ℕ) → IsStart N i S W → IsStart N i S' W' →
       (u u' h : ℕ) → u ≤ u' → On i h → W u h ≤ W' u' h
@@ -91,7 +91,7 @@ module _ (N : Net) (i : Flow) (ok : Ready N i) where
   unfolding start
   start_is S =
       starts_meant N i ok.sound S (start N i S)
-      (λ u. starts_found (order i) (sum N i S u) (rises-alone N i ok.sound S u) B (slow S u) (length i.path) (rank_below i))
+      (λ u. starts_found (order i) (sum N i S u) (rises_alone N i ok.sound S u) B (slow S u) (length i.path) (rank_below i))
 
   -- B instants decide. RULES, response bounds
   pub response_is : (S : Arrivals) (h : ℕ) → On i h → IsResponse N i S h (response N i S h)

@@ -1,13 +1,13 @@
 -- The cases with *, sets that tell readings apart, and crossing paths, as lists of rows: the judgement of each row's set is the expected one. RULES, cases.
 use Rattle.std.specs.Prelude.{◌≡◌, refl, List, [], ◌∷◌, ℕ}
 use Rattle.least.specs.Count.{count, ceil}
-use Rattle.least.specs.Fold.{sum_of, max_of, minOf, any_of, keep}
+use Rattle.least.specs.Fold.{sum_of, max_of, min_of, any_of, keep}
 use Rattle.least.specs.Fixed.{climb}
 use Rattle.least.specs.Vector.{settle_by}
 use Rattle.least.specs.Instants.{best_to}
-use Rattle.least.specs.Starts.{startTo}
+use Rattle.least.specs.Starts.{start_to}
 use Rattle.rules.specs.Net.{Hop, Flow, Net, Figures, Judgement, Refused, Given}
-use Rattle.rules.specs.Formula.{horizon, role, visits, prefix, before, last_node, first_on, last_on, there, crossings, smin, runs_along, along, least_cost, M, slowest, weight, own_weight, earliest, slowest_node, plus_a, less_a, term1, term2, packets, others, term3, greatestCost, term4, lowerCost, term5, term6, sum, load, jitter_of}
+use Rattle.rules.specs.Formula.{horizon, role, visits, prefix, before, last_node, first_on, last_on, there, crossings, smin, runs_along, along, least_cost, M, slowest, weight, own_weight, earliest, slowest_node, plus_a, less_a, term1, term2, packets, others, term3, greatest_cost, term4, lower_cost, term5, term6, sum, load, jitter_of}
 use Rattle.rules.specs.Judge.{busy_length, start, response, arriving_by, arrivals_by, replies, round, past_horizon, total, still, rounds, settle, figures, meets_again, returns, misplaced, first_or, settled_judged, load_judged, judged}
 
 hop : ℕ → ℕ → Hop
@@ -119,17 +119,17 @@ Right [] = Unit {0}
 Right (r ∷ l) = (judged r.net ≡ r.expected) × Right l
 
 pub worked : Right rows
-unfolding Right rows hop flow plain fig between on row count ceil sum_of max_of minOf any_of keep climb settle_by best_to startTo horizon role visits prefix before last_node first_on last_on there crossings smin runs_along along least_cost M slowest weight own_weight earliest slowest_node plus_a less_a term1 term2 packets others term3 greatestCost term4 lowerCost term5 term6 sum load jitter_of busy_length start response arriving_by arrivals_by replies round past_horizon total still rounds settle figures meets_again returns misplaced first_or settled_judged load_judged judged
+unfolding Right rows hop flow plain fig between on row count ceil sum_of max_of min_of any_of keep climb settle_by best_to start_to horizon role visits prefix before last_node first_on last_on there crossings smin runs_along along least_cost M slowest weight own_weight earliest slowest_node plus_a less_a term1 term2 packets others term3 greatest_cost term4 lower_cost term5 term6 sum load jitter_of busy_length start response arriving_by arrivals_by replies round past_horizon total still rounds settle figures meets_again returns misplaced first_or settled_judged load_judged judged
 worked = (refl, (refl, (refl, (refl, (refl, (refl, (refl, (refl, (refl, (refl, (refl, (refl, tt))))))))))))
 
 pub told-apart : Right apart
-unfolding Right apart hop flow plain fig between on row count ceil sum_of max_of minOf any_of keep climb settle_by best_to startTo horizon role visits prefix before last_node first_on last_on there crossings smin runs_along along least_cost M slowest weight own_weight earliest slowest_node plus_a less_a term1 term2 packets others term3 greatestCost term4 lowerCost term5 term6 sum load jitter_of busy_length start response arriving_by arrivals_by replies round past_horizon total still rounds settle figures meets_again returns misplaced first_or settled_judged load_judged judged
+unfolding Right apart hop flow plain fig between on row count ceil sum_of max_of min_of any_of keep climb settle_by best_to start_to horizon role visits prefix before last_node first_on last_on there crossings smin runs_along along least_cost M slowest weight own_weight earliest slowest_node plus_a less_a term1 term2 packets others term3 greatest_cost term4 lower_cost term5 term6 sum load jitter_of busy_length start response arriving_by arrivals_by replies round past_horizon total still rounds settle figures meets_again returns misplaced first_or settled_judged load_judged judged
 told-apart = (refl, (refl, (refl, (refl, (refl, (refl, (refl, (refl, (refl, (refl, (refl, (refl, (refl, (refl, (refl, (refl, tt))))))))))))))))
 
 pub told-near : Right near
-unfolding Right near hop flow plain fig between on row count ceil sum_of max_of minOf any_of keep climb settle_by best_to startTo horizon role visits prefix before last_node first_on last_on there crossings smin runs_along along least_cost M slowest weight own_weight earliest slowest_node plus_a less_a term1 term2 packets others term3 greatestCost term4 lowerCost term5 term6 sum load jitter_of busy_length start response arriving_by arrivals_by replies round past_horizon total still rounds settle figures meets_again returns misplaced first_or settled_judged load_judged judged
+unfolding Right near hop flow plain fig between on row count ceil sum_of max_of min_of any_of keep climb settle_by best_to start_to horizon role visits prefix before last_node first_on last_on there crossings smin runs_along along least_cost M slowest weight own_weight earliest slowest_node plus_a less_a term1 term2 packets others term3 greatest_cost term4 lower_cost term5 term6 sum load jitter_of busy_length start response arriving_by arrivals_by replies round past_horizon total still rounds settle figures meets_again returns misplaced first_or settled_judged load_judged judged
 told-near = (refl, (refl, (refl, (refl, (refl, (refl, tt))))))
 
 pub kept-apart : Right crossed
-unfolding Right crossed hop flow plain fig between on row count ceil sum_of max_of minOf any_of keep climb settle_by best_to startTo horizon role visits prefix before last_node first_on last_on there crossings smin runs_along along least_cost M slowest weight own_weight earliest slowest_node plus_a less_a term1 term2 packets others term3 greatestCost term4 lowerCost term5 term6 sum load jitter_of busy_length start response arriving_by arrivals_by replies round past_horizon total still rounds settle figures meets_again returns misplaced first_or settled_judged load_judged judged
+unfolding Right crossed hop flow plain fig between on row count ceil sum_of max_of min_of any_of keep climb settle_by best_to start_to horizon role visits prefix before last_node first_on last_on there crossings smin runs_along along least_cost M slowest weight own_weight earliest slowest_node plus_a less_a term1 term2 packets others term3 greatest_cost term4 lower_cost term5 term6 sum load jitter_of busy_length start response arriving_by arrivals_by replies round past_horizon total still rounds settle figures meets_again returns misplaced first_or settled_judged load_judged judged
 kept-apart = (refl, (refl, (refl, (refl, (refl, (refl, (refl, (refl, (refl, (refl, (refl, tt)))))))))))

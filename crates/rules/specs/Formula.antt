@@ -2,7 +2,7 @@
 -- of x = a − b is count a b T; proofs/Whole shows that nothing is lost.
 use Rattle.std.specs.Prelude.{Bool, true, false, List, [], ◌∷◌, map, ℕ, ◌+◌, ◌-◌, ◌*◌, max, ltb, eqb, length}
 use Rattle.least.specs.Count.{pick, count, ceil}
-use Rattle.least.specs.Fold.{sum_of, max_of, minOf, only, any_of, keep}
+use Rattle.least.specs.Fold.{sum_of, max_of, min_of, only, any_of, keep}
 use Rattle.rules.specs.Net.{Hop, Flow, Net}
 
 -- the horizon H
@@ -106,7 +106,7 @@ along i P j = both (higher_or_equal (role i j.flow)) (runs_along P j)
 -- M(i,h)
 unfoldable pub least_cost : Net → Flow → Hop → ℕ
 least_cost N i k =
-    minOf (least k)
+    min_of (least k)
     (λ j. pick (both (along i i.path j) (visits j.part k.node)) (there least j.part k.node) (least k)) (crossings N i)
 
 unfoldable pub M : Net → Flow → ℕ → ℕ
@@ -166,18 +166,18 @@ term3 i P u = count u 0 i.period * own_weight P i
 
 module _ (N : Net) (i : Flow) where
   -- 4. the greatest cost at each node but i's slowest
-  unfoldable pub greatestCost : List Hop → Hop → ℕ
-  greatestCost P k = max k.cost (max_of (only (along i P) (λ j. cost_at j.part k.node)) (crossings N i))
+  unfoldable pub greatest_cost : List Hop → Hop → ℕ
+  greatest_cost P k = max k.cost (max_of (only (along i P) (λ j. cost_at j.part k.node)) (crossings N i))
 
   unfoldable pub term4 : List Hop → ℕ
-  term4 P = sum_of (λ k. pick (eqb k.node (slowest_node P i)) 0 (greatestCost P k)) P
+  term4 P = sum_of (λ k. pick (eqb k.node (slowest_node P i)) 0 (greatest_cost P k)) P
 
   -- 5. the greatest lower cost at each node, less 1
-  unfoldable pub lowerCost : Hop → ℕ
-  lowerCost k = max_of (only (λ j. lower (role i j.flow)) (λ j. cost_at j.part k.node)) (crossings N i)
+  unfoldable pub lower_cost : Hop → ℕ
+  lower_cost k = max_of (only (λ j. lower (role i j.flow)) (λ j. cost_at j.part k.node)) (crossings N i)
 
   unfoldable pub term5 : List Hop → ℕ
-  term5 P = sum_of (λ k. lowerCost k - 1) P
+  term5 P = sum_of (λ k. lower_cost k - 1) P
 
 -- 6. without the cost that is taken off
 unfoldable pub term6 : Net → List Hop → ℕ

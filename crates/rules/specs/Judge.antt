@@ -5,7 +5,7 @@ use Rattle.least.specs.Fold.{sum_of, max_of, only, any_of}
 use Rattle.least.specs.Fixed.{climb, cap, floored}
 use Rattle.least.specs.Vector.{settle_by}
 use Rattle.least.specs.Instants.{best_to}
-use Rattle.least.specs.Starts.{startTo}
+use Rattle.least.specs.Starts.{start_to}
 use Rattle.rules.specs.Net.{Hop, Flow, Net, Figures, Judgement, Refused, Given}
 use Rattle.rules.specs.Formula.{horizon, visits, last_node, both, cost_at, Arrivals, sum, load, jitter_of}
 
@@ -14,7 +14,7 @@ unfoldable pub busy_length : Net → Flow → ℕ
 busy_length N i = climb (cap horizon (floored 1 (load N i))) (suc (suc horizon)) 0
 
 unfoldable pub start : Net → Flow → Arrivals → ℕ → ℕ → ℕ
-start N i S u h = startTo (sum N i S u) (busy_length N i) (length i.path) h
+start N i S u h = start_to (sum N i S u) (busy_length N i) (length i.path) h
 
 unfoldable pub response : Net → Flow → Arrivals → ℕ → ℕ
 response N i S h = best_to (λ u. start N i S u h + cost_at i.path h + i.jitter) (busy_length N i)

@@ -1,78 +1,61 @@
 -- A look near some peaks: a law for the start, for each peak and for each way out. Assumes nothing.
-use mathlib.Core.Path.{◌≡◌, refl, sym, ap}
+use mathlib.Core.Path.{◌≡◌, refl, sym}
 use mathlib.Core.Bool.{Bool, true, false}
-use mathlib.Core.Logic.{inl, inr}
 use mathlib.Core.List.{List}
 use Prim.Native.Nat.{ℕ, ◌+◌, ◌≤◌, ◌<◌}
 use native.Mathlib.Omega.{arith}
 use native.Mathlib.Nat.{le_trans}
-use Rattle.least.specs.Instants.{since, best_to}
+use Rattle.least.specs.Instants.{since}
 use Rattle.least.specs.Lists.{values}
-use Rattle.least.proofs.Count.{le_or-lt}
 use Rattle.least.proofs.Fold.{false_true}
 use Rattle.least.proofs.Instants.{best-within, since_le, best-all}
-use Rattle.starts.specs.Runs.{reply_at, LowTo, ResponsesAre}
-use Rattle.settle.specs.Turns.{Within, Reached, LookIs}
+use Rattle.starts.specs.Runs.{StartsOf, reply_at, LowTo, ResponsesAre}
+use Rattle.settle.specs.Turns.{LookIs}
 
--- the bounds while there are p peaks left: the first look is at the last node's, and over the busy length if that is no farther
-pub record Looked (e : List ℕ) (m far busy : ℕ) (best₀ best : List ℕ) (last p : ℕ) : Type 0 where
-  pub places : p ≤ m
-  pub first : p ≡ m → last ≡ busy + far
-  pub below : Within e m best₀ best
-  pub all : p < m → busy ≤ far → Reached e m busy best
-  pub low : LowTo m best
+-- what bounds W + C − t everywhere bounds a run over some instants
+run_below : (e : List ℕ) (m A B : ℕ) (best₀ best : List ℕ) → ResponsesAre e m A B best₀ false best → (W : ℕ → ℕ → ℕ) → StartsOf e m W →
+    (p : ℕ) → p < m → (r : ℕ) → ((t : ℕ) → reply_at e W p t ≤ r + t) → values best₀ p ≤ r → values best p ≤ r
+run_below e m A B best₀ best run W s p on r h g =
+    omega (arith, (run.maxima W s p on).bound, best-within (since A (reply_at e W p)) r (λ t. le_trans (since_le A (reply_at e W p) t) (h t)) B)
 
 module _ (e : List ℕ) (m far busy : ℕ) (best₀ : List ℕ) where
-  pub looked_none : LowTo m best₀ → Looked e m far busy best₀ best₀ (busy + far) m
-  looked_none low = record { places = omega arith; first = λ z. refl; below = λ W s p on r h g. g; all = λ h. absurd (omega arith); low = low }
-
-  -- a peak near the one before, which the first is not
-  pub looked_near : {best : List ℕ} {last p₀ : ℕ} (p peak : ℕ) → Looked e m far busy best₀ best last p₀ → p₀ ≡ p + 1 → peak ≤ busy → (peak + far ≤ last → ⊥) →
-      Looked e m far busy best₀ best last p
-  looked_near {best} {last} {p₀} p peak looked one on near = record {
-    places = omega (arith, looked.places);
-    first = λ z. absurd (omega (arith, looked.places));
-    below = looked.below;
-    all = λ h. looked.all (elim (le_or-lt m p₀) [ inl g ↦ absurd (near (omega (arith, looked.first (omega (arith, looked.places))))) | inr g ↦ g ]);
-    low = looked.low;
+  -- over the busy length
+  pub look_all : (past : Bool) (best : List ℕ) → ResponsesAre e m 0 busy best₀ past best → LookIs e m far busy best₀ past best
+  look_all true best run = record {
+    below = λ z. false_true (sym z);
+    all = λ z. false_true (sym z);
+    over = λ z W s. (let q = run.maxima W s in (q.0, q.3));
+    low = run.low;
+  }
+  look_all false best run = record {
+    below = λ z. run_below e m 0 busy best₀ best run;
+    all = λ z h W s p on. omega (arith, (run.maxima W s p on).bound, best-all (reply_at e W p) busy);
+    over = λ z. false_true z;
+    low = run.low;
   }
 
-  module _ {A B : ℕ} {past : Bool} {best best' : List ℕ} (run : ResponsesAre e m A B best past best') where
-    pub looked_more : past ≡ false → {last p₀ : ℕ} (p last' : ℕ) → Looked e m far busy best₀ best last p₀ → p₀ ≡ p + 1 →
-        (busy ≤ far → (A ≡ 0) × (B ≡ busy)) → Looked e m far busy best₀ best' last' p
-    looked_more is p last' looked one full = record {
-      places = omega (arith, looked.places);
-      first = λ z. absurd (omega (arith, looked.places));
-      below = λ W s k on r h g.
-          omega (
-            arith,
-            ((rw is at run).maxima W s k on).bound,
-            looked.below W s k on r h g,
-            best-within (since A (reply_at e W k)) r (λ t. le_trans (since_le A (reply_at e W k) t) (h t)) B,
-          );
-      all = λ q h W s k on.
-          omega (
-            arith,
-            ((rw is at run).maxima W s k on).bound,
-            ap (λ a. best_to (since a (reply_at e W k)) B) (full h).0,
-            ap (best_to (since 0 (reply_at e W k))) (full h).1,
-            best-all (reply_at e W k) busy,
-          );
-      low = run.low;
+  module _ (near : far < busy) where
+    pub look_none : LowTo m best₀ → LookIs e m far busy best₀ false best₀
+    look_none low = record {
+      below = λ z W s p on r h g. g;
+      all = λ z h. absurd (omega arith);
+      over = λ z. false_true z;
+      low = low;
     }
 
-    pub look_past : past ≡ true → LookIs e m far busy best₀ true best'
-    look_past is = record {
-      below = λ z. false_true (sym z);
-      all = λ z. false_true (sym z);
-      over = λ z W s. (let q = (rw is at run).maxima W s in (q.0, q.3));
-      low = run.low;
-    }
+    module _ (best : List ℕ) (look : LookIs e m far busy best₀ false best) (A B : ℕ) (past : Bool) (best' : List ℕ) (run : ResponsesAre e m A B best past best') where
+      pub look_more : past ≡ false → LookIs e m far busy best₀ false best'
+      look_more is = record {
+        below = λ z W s p on r h g. run_below e m A B best best' (rw is at run) W s p on r h (look.below refl W s p on r h g);
+        all = λ z h. absurd (omega arith);
+        over = λ z. false_true z;
+        low = run.low;
+      }
 
-  pub look_end : {best : List ℕ} {last p : ℕ} → Looked e m far busy best₀ best last p → p ≡ 0 → LookIs e m far busy best₀ false best
-  look_end {best} {last} {p} looked z = record {
-    below = λ e. looked.below;
-    all = λ e h W s k on. looked.all (omega arith) h W s k on;
-    over = λ e. false_true e;
-    low = looked.low;
-  }
+      pub look_past : past ≡ true → LookIs e m far busy best₀ true best'
+      look_past is = record {
+        below = λ z. false_true (sym z);
+        all = λ z. false_true (sym z);
+        over = λ z W s. (let q = (rw is at run).maxima W s in (q.0, q.3));
+        low = run.low;
+      }

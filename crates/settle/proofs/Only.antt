@@ -12,7 +12,7 @@ use Rattle.rules.specs.Net.{Flow, Net}
 use Rattle.rules.specs.Meaning.{Here}
 use Rattle.rules.specs.Valid.{Valid}
 use Rattle.rules.specs.Ready.{Ready}
-use Rattle.rules.proofs.Settle.{responses_rise, least-settled_unique}
+use Rattle.rules.proofs.Settle.{responses_rise, least_settled_unique}
 use Rattle.nets.specs.Nets.{count_in, room_in, length_in, net_in, flow_at, node_at}
 use Rattle.nets.proofs.Reading.{flows_length}
 use Rattle.nets.proofs.Places.{visits_at}
@@ -25,7 +25,7 @@ due-le : (N : Net) → ((i : Flow) → Here N i → Ready N i) → (w : ℕ) (re
     (b k : ℕ) → b < length N.flows → k < length (flow_at N b).path → due N w replies b k ≤ due N w replies' b k
 due-le N ready w replies replies' r r' b k h g =
     responses_rise N ready (arrivals_in N w replies) (arrivals_in N w replies')
-    (λ x. le_of_eq (least-settled_unique N (arrivals_in N w replies) (arrivals_in N w replies') r.least r'.least x))
+    (λ x. le_of_eq (least_settled_unique N (arrivals_in N w replies) (arrivals_in N w replies') r.least r'.least x))
     (flow_at N b) (flow_here_lem N b h) (node_at (flow_at N b) k) (visits_at (flow_at N b).path k g)
 
 module _ (net busies : List ℕ) (valid : Valid (net_in net)) (ready : (i : Flow) → Here (net_in net) i → Ready (net_in net) i) (busy : BusiesAre net busies) where

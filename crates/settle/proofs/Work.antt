@@ -22,7 +22,7 @@ use Rattle.rules.specs.Valid.{Valid}
 use Rattle.rules.specs.Judge.{busy_length}
 use Rattle.rules.specs.Ready.{Ready}
 use Rattle.nets.specs.Nets.{count_in, room_in, length_in, net_in, flow_at}
-use Rattle.nets.proofs.Reading.{path_length, flows_length, flow_at_lem}
+use Rattle.nets.proofs.Reading.{path_length, flows_length, flow_at}
 use Rattle.nets.proofs.Sets.{flow_here_lem}
 use Rattle.starts.specs.Runs.{most_time, StartsOf, reply_at}
 use Rattle.sheets.specs.Sheets.{SheetIs}
@@ -30,13 +30,13 @@ use Rattle.sheets.proofs.Whole.{times, starts, replies_below, replies_best, repl
 use Rattle.rounds.specs.Reading.{reads_flow, Unread}
 use Rattle.ascent.specs.Good.{held, due, Good}
 use Rattle.rounds.specs.Rounds.{fresh_mark, RaisedIs, MarkedIs}
-use Rattle.rounds.specs.Looks.{PutBack}
+use Rattle.rounds.specs.Windows.{TurnsLeft}
 use Rattle.settle.specs.Turns.{total, Fair, LookIs, BusiesAre, TurnIs}
 use Rattle.ascent.proofs.Reading.{unread_is}
 use Rattle.ascent.proofs.Steps.{good_past, good_still, good_raised}
 
 pub path_long : (net : List ℕ) (b : ℕ) → b < count_in net → length (flow_at (net_in net) b).path ≡ length_in net b
-path_long net b h = ap (λ j. length j.path) (flow_at_lem net b h) ∙ path_length net b
+path_long net b h = ap (λ j. length j.path) (flow_at net b h) ∙ path_length net b
 
 -- what is left falls by a mark; and by a response bound, however many marks there are then of at most n
 fewer_marks : (x n s s' : ℕ) → s' < s → x * (n + 1) + s' < x * (n + 1) + s
@@ -87,15 +87,15 @@ module _ (replies best : List ℕ) (at m : ℕ) (replies' : List ℕ) (rose : �
       sum_to-lt size (at + r.0) (values replies) (values replies') (omega (arith, r.1)) (λ j q. grows j) (omega (arith, raised.inside r.0 r.1, r.2))
 
 -- of the flows below n, that at hand has t turns left now, the others as many as before
-record Turned (n : ℕ) (marks : List ℕ) (a t : ℕ) (marks' : List ℕ) : Type 0 where
+pub record Turned (n : ℕ) (marks : List ℕ) (a t : ℕ) (marks' : List ℕ) : Type 0 where
   pub own : values marks' a ≡ t
   pub others : (b : ℕ) → b < n → (b ≡ a → ⊥) → values marks' b ≡ values marks b
 
-turned_set : {n : ℕ} (marks : List ℕ) (a t : ℕ) → a < length marks → Turned n marks a t (set marks a t)
+pub turned_set : {n : ℕ} (marks : List ℕ) (a t : ℕ) → a < length marks → Turned n marks a t (set marks a t)
 turned_set marks a t h = record { own = get_or-set_same marks a t 0 h; others = λ b on ne. get_or-set_other marks a b t 0 ne }
 
 -- what stands behind the marks is none of them
-turned_behind : {n from to : ℕ} {marks marks' marks'' : List ℕ} {a t : ℕ} → n ≤ from → Inside from to marks' marks'' → a < n → Turned n marks a t marks' →
+pub turned_behind : {n from to : ℕ} {marks marks' marks'' : List ℕ} {a t : ℕ} → n ≤ from → Inside from to marks' marks'' → a < n → Turned n marks a t marks' →
     Turned n marks a t marks''
 turned_behind {a} behind i on turned = record {
   own = i.before a (omega arith) ∙ turned.own;
@@ -147,8 +147,8 @@ module _ {net busies replies marks : List ℕ} {a : ℕ} {sheet : List ℕ} {m f
   short b = omega arith
 
   module _ (val : Valid N) (ready : (i : Flow) → Here N i → Ready N i) (busy : BusiesAre net busies) where
-    its-busy : values busies a ≡ busy_length N (flow_at N a)
-    its-busy = busy a ran.on ∙ ap (busy_length N) (sym (flow_at_lem net a ran.on))
+    its_busy : values busies a ≡ busy_length N (flow_at N a)
+    its_busy = busy a ran.on ∙ ap (busy_length N) (sym (flow_at net a ran.on))
 
     its-look : LookIs sheet (length (flow_at N a).path) far (values busies a) best₀ past best
     its-look = subst (λ c. LookIs sheet c far (values busies a) best₀ past best) (ran.long ∙ sym (path_long net a ran.on)) ran.look
@@ -156,27 +156,27 @@ module _ {net busies replies marks : List ℕ} {a : ℕ} {sheet : List ℕ} {m f
     its-ready : Ready N (flow_at N a)
     its-ready = ready (flow_at N a) (flow_here_lem N a (here a ran.on))
 
-    its-starts : StartsOf sheet (length (flow_at N a).path) (times N val w (values replies) a (here a ran.on) sheet (ran.written val))
-    its-starts = starts N val w (values replies) a (here a ran.on) sheet (ran.written val) its-ready
+    its_starts : StartsOf sheet (length (flow_at N a).path) (times N val w (values replies) a (here a ran.on) sheet (ran.written val))
+    its_starts = starts N val w (values replies) a (here a ran.on) sheet (ran.written val) its-ready
 
     module _ (good : Good N w replies marks) (clear : past ≡ false) (k : ℕ) (h : k < length (flow_at N a).path) where
       best-below : values best k ≤ due N w replies a k
       best-below =
-          its-look.below clear _ its-starts k h (due N w replies a k)
+          its-look.below clear _ its_starts k h (due N w replies a k)
           (replies_below N val w (values replies) a (here a ran.on) sheet (ran.written val) its-ready k h)
           (omega (arith, ran.held k (omega (arith, ran.long, path_long net a ran.on)), good.up a k (here a ran.on) h))
 
       best-is : values busies a ≤ far → due N w replies a k ≤ values best k
       best-is full = omega (
         arith,
-        its-look.all clear full _ its-starts k h,
-        ap (best_to (reply_at sheet (times N val w (values replies) a (here a ran.on) sheet (ran.written val)) k)) its-busy,
+        its-look.all clear full _ its_starts k h,
+        ap (best_to (reply_at sheet (times N val w (values replies) a (here a ran.on) sheet (ran.written val)) k)) its_busy,
         replies_best N val w (values replies) a (here a ran.on) sheet (ran.written val) its-ready k h,
       )
 
     past_is : past ≡ true → (k : ℕ) × (k < length (flow_at N a).path) × (horizon < due N w replies a k)
     past_is e =
-        let q = its-look.over e _ its-starts in
+        let q = its-look.over e _ its_starts in
         replies_past N val w (values replies) a (here a ran.on) sheet (ran.written val) its-ready q.0 q.1
 
   pub turn_past : past ≡ true → TurnIs net busies replies marks a true replies marks
@@ -185,32 +185,32 @@ module _ {net busies replies marks : List ℕ} {a : ℕ} {sheet : List ℕ} {m f
     keeps = λ val ready busy good. (let q = past_is val ready busy e in good_past N val ready w replies marks good a q.0 (here a ran.on) q.1 q.2);
   }
 
-  module _ (clear : past ≡ false) {at : ℕ} (first : at ≡ a * room_in net) {replies' marks' : List ℕ}
-      (put : PutBack net replies marks best a at m far (values busies a) replies' marks') (fair : Fair net replies marks) where
+  module _ (clear : past ≡ false) {at : ℕ} (first : at ≡ a * room_in net) {replies' : List ℕ} {rose : ℕ} (raised : RaisedIs replies best at m replies' rose)
+      {t : ℕ} (lowered : TurnsLeft (values marks a) rose far (values busies a) t) (fair : Fair net replies marks) where
     -- it has none only after a look over all
-    none-full : put.turns ≡ 0 → values busies a ≤ far
+    none-full : t ≡ 0 → values busies a ≤ far
     none-full z = elim (le_or-lt (values busies a) far) [
       | inl h ↦ h
-      | inr h ↦ elim (le_or-lt (values marks a) 1) [ inl g ↦ ran.last g | inr g ↦ some h (eqb put.rose 0) refl g ]
+      | inr h ↦ elim (le_or-lt (values marks a) 1) [ inl g ↦ ran.last g | inr g ↦ some h (eqb rose 0) refl g ]
     ]
       where
-        some : far < values busies a → (x : Bool) → eqb put.rose 0 ≡ x → 1 < values marks a → values busies a ≤ far
-        some h true e g = absurd (omega (arith, put.lowered.less h (eqb-true put.rose 0 e)))
-        some h false e g = absurd (omega (arith, put.lowered.anew h (eqb-false put.rose 0 e)))
+        some : far < values busies a → (x : Bool) → eqb rose 0 ≡ x → 1 < values marks a → values busies a ≤ far
+        some h true e g = absurd (omega (arith, lowered.less h (eqb-true rose 0 e)))
+        some h false e g = absurd (omega (arith, lowered.anew h (eqb-false rose 0 e)))
 
-    few-turns : put.turns ≤ fresh_mark
-    few-turns = elim (le_or-lt (values busies a) far) [
-      | inl h ↦ omega (arith, put.lowered.none h)
-      | inr h ↦ some h (eqb put.rose 0) refl
+    few_turns : t ≤ fresh_mark
+    few_turns = elim (le_or-lt (values busies a) far) [
+      | inl h ↦ omega (arith, lowered.none h)
+      | inr h ↦ some h (eqb rose 0) refl
     ]
       where
-        some : far < values busies a → (x : Bool) → eqb put.rose 0 ≡ x → put.turns ≤ fresh_mark
-        some h true e = omega (arith, put.lowered.less h (eqb-true put.rose 0 e), fair.flags a ran.on)
-        some h false e = omega (arith, put.lowered.anew h (eqb-false put.rose 0 e))
+        some : far < values busies a → (x : Bool) → eqb rose 0 ≡ x → t ≤ fresh_mark
+        some h true e = omega (arith, lowered.less h (eqb-true rose 0 e), fair.flags a ran.on)
+        some h false e = omega (arith, lowered.anew h (eqb-false rose 0 e))
 
-    module _ {marks₁ : List ℕ} (turned : Turned (count_in net) marks a put.turns marks₁) where
-      turn-still : put.rose ≡ 0 → TurnIs net busies replies marks a false replies' marks₁ × Fair net replies' marks₁
-      turn-still z = subst (λ r. TurnIs net busies replies marks a false r marks₁ × Fair net r marks₁) (sym (still-same replies best at m replies' put.rose put.raised z)) (
+    module _ {marks₁ : List ℕ} (turned : Turned (count_in net) marks a t marks₁) where
+      pub turn_still : rose ≡ 0 → TurnIs net busies replies marks a false replies' marks₁ × Fair net replies' marks₁
+      turn_still z = subst (λ r. TurnIs net busies replies marks a false r marks₁ × Fair net r marks₁) (sym (still-same replies best at m replies' rose raised z)) (
         record {
           falls = λ e q. fewer_marks _ (count_in net * fresh_mark) _ _ (turned_left turned ran.on (fewer q));
           keeps = λ val ready busy good.
@@ -220,30 +220,30 @@ module _ {net busies replies marks : List ℕ} {a : ℕ} {sheet : List ℕ} {m f
                   λ k on. omega (
                     arith,
                     best-is val ready busy good clear k on (none-full c.1),
-                    put.raised.still z k (omega (arith, ran.long, path_long net a ran.on)),
+                    raised.still z k (omega (arith, ran.long, path_long net a ran.on)),
                     ap (λ c. values replies (c + k)) first,
                   ),
                 )
                 | inr c ↦ inr c
               ]);
         },
-        record { low = fair.low; bare = fair.bare; flags = turned-flags turned few-turns fair.flags },
+        record { low = fair.low; bare = fair.bare; flags = turned-flags turned few_turns fair.flags },
       )
         where
-          fewer : (values marks a ≡ 0 → ⊥) → put.turns < values marks a
+          fewer : (values marks a ≡ 0 → ⊥) → t < values marks a
           fewer q = elim (le_or-lt (values busies a) far) [
-            | inl h ↦ omega (arith, put.lowered.none h, positive (values marks a) q)
-            | inr h ↦ omega (arith, put.lowered.less h z, positive (values marks a) q)
+            | inl h ↦ omega (arith, lowered.none h, positive (values marks a) q)
+            | inr h ↦ omega (arith, lowered.less h z, positive (values marks a) q)
           ]
             where
               positive : (n : ℕ) → (n ≡ 0 → ⊥) → 0 < n
               positive n z = omega arith
 
-      module _ (marked : MarkedIs marks₁ net a (count_in net) marks') where
+      module _ {marks' : List ℕ} (marked : MarkedIs marks₁ net a (count_in net) marks') where
         unraised : (b k : ℕ) → k < w → (b ≡ a → m ≤ k) → values replies' (b * w + k) ≡ values replies (b * w + k)
         unraised b k hk behind = elim (apart w m a b k (omega (arith, ran.long, short a)) hk behind) [
-          | inl h ↦ put.raised.others.before (b * w + k) (omega arith)
-          | inr h ↦ put.raised.others.behind (b * w + k) (omega arith)
+          | inl h ↦ raised.others.before (b * w + k) (omega arith)
+          | inr h ↦ raised.others.behind (b * w + k) (omega arith)
         ]
 
         flags : (b : ℕ) → b < count_in net → values marks' b ≤ fresh_mark
@@ -251,11 +251,11 @@ module _ {net busies replies marks : List ℕ} {a : ℕ} {sheet : List ℕ} {m f
           where
             go : (t : Bool) → reads_flow net b a ≡ t → values marks' b ≤ fresh_mark
             go true e = omega (arith, marked.read b h e)
-            go false e = omega (arith, marked.unread b h e, turned-flags turned few-turns fair.flags b h)
+            go false e = omega (arith, marked.unread b h e, turned-flags turned few_turns fair.flags b h)
 
-        raised-fair : Fair net replies' marks'
-        raised-fair = record {
-          low = put.raised.low;
+        pub raised_fair : Fair net replies' marks'
+        raised_fair = record {
+          low = raised.low;
           bare = λ b k hk q. unraised b k hk (behind b k q) ∙ fair.bare b k hk q;
           flags = flags;
         }
@@ -264,8 +264,8 @@ module _ {net busies replies marks : List ℕ} {a : ℕ} {sheet : List ℕ} {m f
             behind b k (inl h) e = absurd (omega (arith, ran.on))
             behind b k (inr h) e = omega (arith, ran.long, ap (length_in net) e)
 
-        turn-raised : (put.rose ≡ 0 → ⊥) → TurnIs net busies replies marks a false replies' marks'
-        turn-raised z = record {
+        pub turn_raised : (rose ≡ 0 → ⊥) → TurnIs net busies replies marks a false replies' marks'
+        turn_raised z = record {
           falls = λ e q.
               fewer_below _ _ (count_in net * fresh_mark) _ _ below (sum_to-bound (count_in net) (values marks') fresh_mark flags);
           keeps = λ val ready busy good.
@@ -281,14 +281,14 @@ module _ {net busies replies marks : List ℕ} {a : ℕ} {sheet : List ℕ} {m f
             below : size * most_time - total size replies' < size * most_time - total size replies
             below = omega (
               arith,
-              more replies best at m replies' put.rose put.raised size (omega (arith, whole w m a (count_in net) (omega (arith, ran.long, short a)) ran.on)) z,
-              sum_to-bound size (values replies') most_time (λ j l. put.raised.low j),
+              more replies best at m replies' rose raised size (omega (arith, whole w m a (count_in net) (omega (arith, ran.long, short a)) ran.on)) z,
+              sum_to-bound size (values replies') most_time (λ j l. raised.low j),
             )
 
             raised_at : (k : ℕ) → k < length (flow_at N a).path → held w replies' a k ≡ max (held w replies a k) (values best k)
             raised_at k h = omega (
               arith,
-              put.raised.inside k (omega (arith, ran.long, path_long net a ran.on)),
+              raised.inside k (omega (arith, ran.long, path_long net a ran.on)),
               ap (λ c. values replies (c + k)) first,
               ap (λ c. values replies' (c + k)) first,
             )
@@ -304,19 +304,3 @@ module _ {net busies replies marks : List ℕ} {a : ℕ} {sheet : List ℕ} {m f
               ],
               unread_is net val b a h ran.on e,
             )
-
-    pub turn_put : a < length marks → TurnIs net busies replies marks a false replies' marks' × Fair net replies' marks'
-    turn_put long = go (eqb put.rose 0) refl
-      where
-        turned : Turned (count_in net) marks a put.turns (set marks a put.turns)
-        turned = turned_set marks a put.turns long
-
-        go : (x : Bool) → eqb put.rose 0 ≡ x → TurnIs net busies replies marks a false replies' marks' × Fair net replies' marks'
-        go true e =
-            let z = eqb-true put.rose 0 e in
-            subst (λ l. TurnIs net busies replies marks a false replies' l × Fair net replies' l) (sym (put.still z)) (turn-still turned z)
-        go false e =
-            let z = eqb-false put.rose 0 e in
-            let r = put.risen z in
-            let k = turned_behind (omega arith) r.2 ran.on turned in
-            (turn-raised k r.3 z, raised-fair k r.3)

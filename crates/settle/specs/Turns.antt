@@ -1,5 +1,5 @@
 -- What a turn does to the response bounds and to the marks.
-use Rattle.std.specs.Prelude.{◌≡◌, Bool, true, false, ◌⊎◌, List, ℕ, ◌+◌, ◌-◌, ◌*◌, ◌≤◌, ◌<◌, length}
+use Rattle.std.specs.Prelude.{◌≡◌, Bool, true, false, ◌⊎◌, List, ℕ, ◌+◌, ◌-◌, ◌*◌, ◌≤◌, ◌<◌, max, length}
 use Rattle.least.specs.Count.{pick}
 use Rattle.least.specs.Fold.{sum_to}
 use Rattle.least.specs.Instants.{best_to}
@@ -44,18 +44,11 @@ pub record Fair (net replies marks : List ℕ) : Type 0 where
   pub bare : Bare net (count_in net) replies
   pub flags : (b : ℕ) → b < count_in net → values marks b ≤ fresh_mark
 
--- no bound is raised above what bounds W + C − t everywhere
-abbrev pub Within : List ℕ → ℕ → List ℕ → List ℕ → Type 0
-Within e m best₀ best = (W : ℕ → ℕ → ℕ) → StartsOf e m W → (p : ℕ) → p < m → (r : ℕ) → ((t : ℕ) → reply_at e W p t ≤ r + t) → values best₀ p ≤ r → values best p ≤ r
-
--- none is less than the maximum below an instant
-abbrev pub Reached : List ℕ → ℕ → ℕ → List ℕ → Type 0
-Reached e m end best = (W : ℕ → ℕ → ℕ) → StartsOf e m W → (p : ℕ) → p < m → best_to (reply_at e W p) end ≤ values best p
-
--- a look so far to each side of some instants, which may be over the busy length; or an instant at which a node passes the horizon
+-- A look at some instants: no bound is raised above what bounds W + C − t everywhere; one as far as the busy length raises to the maximum below that. Or
+-- an instant at which a node passes the horizon.
 pub record LookIs (e : List ℕ) (m far busy : ℕ) (best₀ : List ℕ) (past : Bool) (best : List ℕ) : Type 0 where
-  pub below : past ≡ false → Within e m best₀ best
-  pub all : past ≡ false → busy ≤ far → Reached e m busy best
+  pub below : past ≡ false → (W : ℕ → ℕ → ℕ) → StartsOf e m W → (p : ℕ) → p < m → (r : ℕ) → ((t : ℕ) → reply_at e W p t ≤ r + t) → values best₀ p ≤ r → values best p ≤ r
+  pub all : past ≡ false → busy ≤ far → (W : ℕ → ℕ → ℕ) → StartsOf e m W → (p : ℕ) → p < m → values best p ≡ max (values best₀ p) (best_to (reply_at e W p) busy)
   pub over : past ≡ true → (W : ℕ → ℕ → ℕ) → StartsOf e m W → (u : ℕ) × PastAt e m W u
   pub low : LowTo m best
 

@@ -1,7 +1,8 @@
 // The least settled arrival bounds: response bounds raised from zero, flow by flow, until each is up to date. A look at some instants may raise them, since
 // W + C − t at any one is at most what is due; only a look at all shows that a flow is up to date. What is worked on is lent.
 #![tactic(auto)]
-ghost use Rattle.std.specs.Prelude.{◌≡◌, ℕ, ◌+◌, ◌-◌, ◌*◌, ◌<◌, ◌≤◌, max, length};
+
+ghost use Rattle.std.specs.Prelude.{◌≡◌, ℕ, ◌+◌, ◌*◌, ◌<◌, ◌≤◌, length};
 ghost use Rattle.least.specs.Lists.{values};
 ghost use Rattle.nets.specs.Nets.{count_in};
 ghost use Rattle.crossings.specs.Pairs.{PairsAre, Noted};
@@ -11,18 +12,16 @@ ghost use Rattle.starts.specs.Runs.{most_time, LowTo};
 ghost use Rattle.starts.specs.Kept.{Strided};
 ghost use Rattle.settle.specs.Turns.{Room, Fair, LookIs, TurnIs, SettleIs};
 
-// How far two instants are from each other.
-fn between(a: u64, b: u64) -> u64
-    ensures { result ≡ max (a - b) (b - a) }
-{
-    if a < b {
-        return b - a;
+// Whether two instants are so far from each other.
+fn apart(a: u64, b: u64, far: u64) -> bool {
+    if far <= least::less(a, b) {
+        return true;
     }
-    a - b
+    far <= least::less(b, a)
 }
 
 // The response bounds of a sheet raised, with their peaks, near the peaks that stand in marks from a place on: from the last node's on, so far to each side,
-// but for one near that looked at before it. So over the busy length, if that is no farther. Whether one passes the horizon.
+// but for one near that looked at before it. Over the busy length, if that is no farther. Whether one passes the horizon.
 fn look(
     sheet: &[u64],
     slots: &mut [u64],
@@ -42,12 +41,15 @@ fn look(
     ensures small { Small slots.new × (length slots.new ≡ length slots.old) }
     ensures steps_len_unchanged { length steps.new ≡ length steps.old }
 {
+    if busy <= far {
+        return starts::responses(sheet, slots, steps, best, m, stride, 0, busy);
+    }
     let mut last = busy + far;
     let mut p = m;
     while 0 < p {
         p -= 1;
         let peak = least::lesser(marks[at + p], busy);
-        if far <= between(last, peak) {
+        if apart(last, peak, far) {
             let from = least::less(peak, far);
             let end = least::lesser(peak + far, busy);
             if starts::responses(sheet, slots, steps, best, m, stride, from, end) {
@@ -99,7 +101,13 @@ fn turn(
     ) {
         return true;
     }
-    rounds::put_back(net, pairs, replies, marks, best, a, at, m, far, busy);
+    let rose = rounds::raise(replies, best, at, m);
+    marks[a] = rounds::turns_left(marks[a], rose, far, busy);
+    if rose == 0 {
+        return false;
+    }
+    least::copy(best, m, marks, n + at, m);
+    rounds::mark(net, pairs, marks, a);
     false
 }
 

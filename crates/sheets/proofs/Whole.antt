@@ -25,10 +25,10 @@ use Rattle.nets.specs.Nets.{flow_at, node_at, position_of}
 use Rattle.nets.proofs.Places.{visits_at, position_node, prefix_at}
 use Rattle.nets.proofs.Sets.{flow_here_lem}
 use Rattle.terms.specs.Terms.{base_of}
-use Rattle.blocks.specs.Sheet.{entries_in, entry_at, added, term_of, sheet_sum, seen, sums}
+use Rattle.blocks.specs.Sheet.{entries_in, entry_at, term_of, sheet_sum, seen, sums}
 use Rattle.starts.specs.Runs.{StartsOf, reply_at, PastAt}
 use Rattle.frames.specs.Frames.{Entry, no_entry, EntryIs, Listed}
-use Rattle.entries.specs.Fields.{up_to, term_by, entriesTo, added_of, responses_in}
+use Rattle.entries.specs.Fields.{up_to, term_by, entries_to, added_of, responses_in}
 use Rattle.sheets.specs.Sheets.{SheetIs}
 use Rattle.entries.proofs.Link.{entries_sum}
 
@@ -64,10 +64,10 @@ module _ (N : Net) (val : Valid N) (w : ℕ) (r : ℕ → ℕ) (a : ℕ) (here :
     prefix-is = prefix_at i.path (val.flows i (flow_here_lem N a here)).distinct p on
 
     abbrev entries : List Entry
-    entries = entriesTo N w r a (prefix h i.path) h (length N.flows)
+    entries = entries_to N w r a (prefix h i.path) h (length N.flows)
 
     listed : Listed e p entries
-    listed = subst (λ P. Listed e p (entriesTo N w r a P h (length N.flows))) (sym prefix-is) (sheet.entries p on)
+    listed = subst (λ P. Listed e p (entries_to N w r a P h (length N.flows))) (sym prefix-is) (sheet.entries p on)
 
     -- the sum at node p
     pub sums_are : (u : ℕ) (x : ℕ → ℕ) (s : ℕ) → sums e u p x s ≡ sum N i S u h (λ l. x (position_of l i.path)) s
@@ -98,9 +98,9 @@ module _ (N : Net) (val : Valid N) (w : ℕ) (r : ℕ → ℕ) (a : ℕ) (here :
         sum_rising N i ready.sound S S (λ k. le_refl _) u u (le_refl u) h visited by_place (start N i S u) (λ l q. omega (arith, same_start l q)) s s (omega arith),
       )
 
-      start-at-p : Least (sums e u p (λ q. start N i S u (node_at i q))) (start N i S u h)
+      start_at_p : Least (sums e u p (λ q. start N i S u (node_at i q))) (start N i S u h)
       unfolding by_place
-      start-at-p =
+      start_at_p =
           least_ext (λ s. same_sum s ∙ sym (sums_are u (λ q. start N i S u (node_at i q)) s))
           (meant_starts N i ready.sound S (start N i S) (start_is N i ready S) u h visited)
 
@@ -110,7 +110,7 @@ module _ (N : Net) (val : Valid N) (w : ℕ) (r : ℕ → ℕ) (a : ℕ) (here :
 
   module _ (ready : Ready N i) where
     pub starts : StartsOf e m times
-    starts u p on = start-at-p p on ready u
+    starts u p on = start_at_p p on ready u
 
     module _ (p : ℕ) (on : p < m) where
       -- W + C − t is at most the response bound of the rules, whatever the instant

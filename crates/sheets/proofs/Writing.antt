@@ -14,16 +14,16 @@ use Rattle.least.proofs.Count.{le_or-lt, pick_below, pick_above}
 use Rattle.rules.specs.Net.{Hop, Flow, Net}
 use Rattle.rules.specs.Formula.{Role, Own, Higher, Equal, Lower, both, role, lower}
 use Rattle.rules.specs.Valid.{Valid}
-use Rattle.nets.specs.Nets.{few, count_in, room_in, length_in, field_in, hop_in, path_in, flow_in, net_in, flow_at, node_at}
+use Rattle.nets.specs.Nets.{count_in, room_in, length_in, field_in, hop_in, path_in, flow_in, net_in, flow_at, node_at}
 use Rattle.nets.proofs.Reading.{path_length, path_at, flows_length, flow_at_lem}
 use Rattle.crossings.specs.Pairs.{place_on, side_number}
 use Rattle.terms.specs.Terms.{base_of}
 use Rattle.blocks.specs.Sheet.{Shaped}
 use Rattle.frames.specs.Frames.{Entry, Listed, Grown, Roomy}
-use Rattle.entries.specs.Fields.{up_to, entry_of, counted, entriesTo}
+use Rattle.entries.specs.Fields.{up_to, entry_of, counted, entries_to}
 use Rattle.sheets.specs.Sheets.{SheetIs, from_on, Joined, Filled}
-use Rattle.entries.specs.Rows.{higherAt, equalAt, own_at}
-use Rattle.entries.proofs.Running.{upto_at, node_at, added_at, own_at_lem, counted_own, counted_at, higher_at, equal_at}
+use Rattle.entries.specs.Rows.{higher_at, equal_at, own_at}
+use Rattle.entries.proofs.Running.{upto_at, node_at_lem, added_at, own_at_lem, counted_own, counted_at, higher_at_lem, equal_at_lem}
 use Rattle.frames.proofs.Frames.{frame_less, kept_grown, Heads, heads_frame}
 
 -- an entry from the first place shared on
@@ -43,7 +43,7 @@ add_at net a p = (hop_in net a p).cost + field_in net a 3
 
 pub heads_filled : (net : List ℕ) (r : ℕ → ℕ) (a : ℕ) → a < count_in net → {e : List ℕ} {p : ℕ} →
     Heads (Valid (net_in net)) (count_in net) (length_in net a) (base_at net a) (add_at net a) e p → length_in net a ≤ p → Filled net r a 0 e
-unfolding entriesTo
+unfolding entries_to
 heads_filled net r a one H end = record {
   frame = heads_frame end H;
   few = λ k h. omega (arith, (H.heads k (omega arith) h).none);
@@ -88,22 +88,22 @@ module _ {net : List ℕ} {r : ℕ → ℕ} {a b : ℕ} {e : List ℕ} (one : a 
   N = net_in net
 
   -- what the rules add to a block, with the prefix P and at node h
-  abbrev newOf : List Hop → ℕ → List Entry
-  newOf P h = pick (counted N (room_in net) r a P h b) (entry_of N (room_in net) r a P h b (role (flow_at N a) (flow_at N b)) ∷ []) []
+  abbrev new_of : List Hop → ℕ → List Entry
+  new_of P h = pick (counted N (room_in net) r a P h b) (entry_of N (room_in net) r a P h b (role (flow_at N a) (flow_at N b)) ∷ []) []
 
   pub filled_roomy : Roomy (count_in net) (length_in net a) e
   filled_roomy = record { frame = F.frame; room = λ p h. omega (arith, F.few p h) }
 
   filled_more : {e' : List ℕ} (x : ℕ → List Entry) → Grown (Valid N) (count_in net) (length_in net a) x e e' →
-      (Valid N → (p : ℕ) → p < length_in net a → x p ≡ newOf (take (p + 1) (path_in net a)) (hop_in net a p).node) → Filled net r a (b + 1) e'
-  unfolding entriesTo
+      (Valid N → (p : ℕ) → p < length_in net a → x p ≡ new_of (take (p + 1) (path_in net a)) (hop_in net a p).node) → Filled net r a (b + 1) e'
+  unfolding entries_to
   filled_more {e'} x G new = record {
     frame = G.frame;
     few = λ p h. omega (arith, (G.blocks p h).few, F.few p h);
     is = λ v p h.
-        let z : x p ≡ newOf (up_to (flow_at N a) p) (node_at (flow_at N a) p) =
-        new v p h ∙ ap₂ newOf (sym (upto_at net v a one p h)) (sym (node_at net v a one p h)) in
-        let E : List Entry = entriesTo N (room_in net) r a (up_to (flow_at N a) p) (node_at (flow_at N a) p) b in
+        let z : x p ≡ new_of (up_to (flow_at N a) p) (node_at (flow_at N a) p) =
+        new v p h ∙ ap₂ new_of (sym (upto_at net v a one p h)) (sym (node_at_lem net v a one p h)) in
+        let E : List Entry = entries_to N (room_in net) r a (up_to (flow_at N a) p) (node_at (flow_at N a) p) b in
         record {
           base = (G.blocks p h).base ∙ (F.is v p h).base;
           added = (G.blocks p h).added ∙ (F.is v p h).added;
@@ -118,11 +118,11 @@ module _ {net : List ℕ} {r : ℕ → ℕ} {a b : ℕ} {e : List ℕ} (one : a 
       (λ v p h. rw (counted_own net v a b one other r p h own (room_in net) (hop_in net a p).node) (ap (λ z. z ∷ []) (sym (own_at_lem net v a b one other r p h own))))
 
   -- of a flow that is neither a nor lower
-  filled-joined : (x : ℕ → ℕ → Entry) → both (not (lower (role (flow_in net a) (flow_in net b)))) true ≡ true →
+  filled_joined : (x : ℕ → ℕ → Entry) → both (not (lower (role (flow_in net a) (flow_in net b)))) true ≡ true →
       (Valid N → (f : ℕ) → First (place_on net a b) (length_in net a) (length_in net b) f → (p : ℕ) → p < length_in net a → f ≤ p →
       entry_of N (room_in net) r a (take (p + 1) (path_in net a)) (hop_in net a p).node b (role (flow_at N a) (flow_at N b)) ≡ x f p) →
       {e' : List ℕ} → Joined net a b x e e' → Filled net r a (b + 1) e'
-  filled-joined x side same J =
+  filled_joined x side same J =
       filled_more (from_on f (x f)) J.grown
       (λ v p h. rw (counted_at net v a b one other r p h f J.first (room_in net) (hop_in net a p).node)
       (elim (le_or-lt f p) [
@@ -137,11 +137,11 @@ module _ {net : List ℕ} {r : ℕ → ℕ} {a b : ℕ} {e : List ℕ} (one : a 
       none true y = refl
       none false y = refl
 
-  pub filled_higher : role (flow_in net a) (flow_in net b) ≡ Higher → {e' : List ℕ} → Joined net a b (higherAt net a b r) e e' → Filled net r a (b + 1) e'
-  filled_higher up J = filled-joined (higherAt net a b r) (rw up) (λ v f d p h q. higher_at net v a b one other r p h f d q up) J
+  pub filled_higher : role (flow_in net a) (flow_in net b) ≡ Higher → {e' : List ℕ} → Joined net a b (higher_at net a b r) e e' → Filled net r a (b + 1) e'
+  filled_higher up J = filled_joined (higher_at net a b r) (rw up) (λ v f d p h q. higher_at_lem net v a b one other r p h f d q up) J
 
-  pub filled_equal : role (flow_in net a) (flow_in net b) ≡ Equal → {e' : List ℕ} → Joined net a b (equalAt net a b r) e e' → Filled net r a (b + 1) e'
-  filled_equal same J = filled-joined (equalAt net a b r) (rw same) (λ v f d p h q. equal_at net v a b one other r p h f d q same) J
+  pub filled_equal : role (flow_in net a) (flow_in net b) ≡ Equal → {e' : List ℕ} → Joined net a b (equal_at net a b r) e e' → Filled net r a (b + 1) e'
+  filled_equal same J = filled_joined (equal_at net a b r) (rw same) (λ v f d p h q. equal_at_lem net v a b one other r p h f d q same) J
 
   pub filled_lower : role (flow_in net a) (flow_in net b) ≡ Lower → Filled net r a (b + 1) e
   unfolding counted
@@ -158,7 +158,7 @@ module _ {net : List ℕ} {r : ℕ → ℕ} {a b : ℕ} {e : List ℕ} (one : a 
     added = λ p h. (F.is v p (on p h)).added;
     entries = λ p h.
         subst
-        (λ n. Listed e p (entriesTo (net_in net) (room_in net) r a (up_to (flow_at (net_in net) a) p) (node_at (flow_at (net_in net) a) p) n))
+        (λ n. Listed e p (entries_to (net_in net) (room_in net) r a (up_to (flow_at (net_in net) a) p) (node_at (flow_at (net_in net) a) p) n))
         (all ∙ sym (flows_length net)) (F.is v p (on p h)).entries;
   }
     where

@@ -11,14 +11,14 @@ use Rattle.ways.specs.Ways.{WaysAre}
 use Rattle.blocks.specs.Sheet.{block_at, added, entries_in}
 use Rattle.starts.specs.Runs.{Low}
 use Rattle.frames.specs.Frames.{Entry, Listed, Frame, Grown}
-use Rattle.entries.specs.Fields.{up_to, entriesTo, added_of}
+use Rattle.entries.specs.Fields.{up_to, entries_to, added_of}
 
 -- the sheet of flow a
 pub record SheetIs (N : Net) (w : ℕ) (r : ℕ → ℕ) (a : ℕ) (e : List ℕ) : Type 0 where
   pub base : (p : ℕ) → p < length (flow_at N a).path → values e (block_at e p) ≡ base_of N (flow_at N a) (up_to (flow_at N a) p) (node_at (flow_at N a) p)
   pub added : (p : ℕ) → p < length (flow_at N a).path → added e p ≡ added_of (flow_at N a) (node_at (flow_at N a) p)
   pub entries : (p : ℕ) → p < length (flow_at N a).path →
-      Listed e p (entriesTo N w r a (up_to (flow_at N a) p) (node_at (flow_at N a) p) (length N.flows))
+      Listed e p (entries_to N w r a (up_to (flow_at N a) p) (node_at (flow_at N a) p) (length N.flows))
 
 -- one entry in each block from place f on
 abbrev pub from_on : ℕ → (ℕ → Entry) → ℕ → List Entry
@@ -43,7 +43,7 @@ module _ (net : List ℕ) (r : ℕ → ℕ) (a : ℕ) where
   pub record BlockIs (b : ℕ) (e : List ℕ) (p : ℕ) : Type 0 where
     pub base : values e (block_at e p) ≡ base_of (net_in net) (flow_at (net_in net) a) (up_to (flow_at (net_in net) a) p) (node_at (flow_at (net_in net) a) p)
     pub added : added e p ≡ added_of (flow_at (net_in net) a) (node_at (flow_at (net_in net) a) p)
-    pub entries : Listed e p (entriesTo (net_in net) (room_in net) r a (up_to (flow_at (net_in net) a) p) (node_at (flow_at (net_in net) a) p) b)
+    pub entries : Listed e p (entries_to (net_in net) (room_in net) r a (up_to (flow_at (net_in net) a) p) (node_at (flow_at (net_in net) a) p) b)
 
   pub record Filled (b : ℕ) (e : List ℕ) : Type 0 where
     pub frame : Frame (count_in net) (length_in net a) e

@@ -1,5 +1,6 @@
 // The sheet of a flow, written at its turn: what of the formula hangs neither on the instant nor on W, with the response bounds so far.
 #![tactic(auto)]
+
 ghost use Rattle.std.specs.Prelude.{◌≡◌, [], ◌∷◌, ℕ, ◌+◌, ◌*◌, ◌<◌, ◌≤◌, length};
 ghost use Rattle.least.specs.Lists.{values};
 ghost use Rattle.rules.specs.Valid.{Valid};
@@ -8,7 +9,7 @@ ghost use Rattle.crossings.specs.Pairs.{Noted};
 ghost use Rattle.ways.specs.Ways.{WaysAre};
 ghost use Rattle.blocks.specs.Sheet.{entries_in, Small, Shaped};
 ghost use Rattle.starts.specs.Runs.{Low};
-ghost use Rattle.entries.specs.Rows.{higherAt, equalAt, own_at};
+ghost use Rattle.entries.specs.Rows.{higher_at, equal_at, own_at};
 ghost use Rattle.frames.specs.Frames.{block_size, Grown, Roomy};
 ghost use Rattle.sheets.specs.Sheets.{SheetIs, Joined, Given, Filled};
 
@@ -61,7 +62,7 @@ fn write_higher(
     b: usize,
 )
     requires { Given net.now pairs.now ways.now replies.now a b × Roomy (count_in net.now) (length_in net.now a) sheet.old }
-    ensures joined { Joined net.now a b (higherAt net.now a b (values replies.now)) sheet.old sheet.new }
+    ensures joined { Joined net.now a b (higher_at net.now a b (values replies.now)) sheet.old sheet.new }
     ensures sheet_len_unchanged { length sheet.new ≡ length sheet.old }
 {
     let m = nets::hops(net, a);
@@ -104,7 +105,7 @@ fn write_equal(
     b: usize,
 )
     requires { Given net.now pairs.now ways.now replies.now a b × Roomy (count_in net.now) (length_in net.now a) sheet.old }
-    ensures joined { Joined net.now a b (equalAt net.now a b (values replies.now)) sheet.old sheet.new }
+    ensures joined { Joined net.now a b (equal_at net.now a b (values replies.now)) sheet.old sheet.new }
     ensures sheet_len_unchanged { length sheet.new ≡ length sheet.old }
 {
     let m = nets::hops(net, a);

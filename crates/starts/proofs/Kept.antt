@@ -7,7 +7,7 @@ use native.Mathlib.Nat.{mul-le-mul_right}
 use lib.ListN.{length}
 use borrow.Author.Count.{below_more}
 use Rattle.least.specs.Lists.{values, Inside}
-use Rattle.blocks.specs.Sheet.{entries_in, entry_at, Shaped, Looking}
+use Rattle.blocks.specs.Sheet.{entries_in, entry_at, Looking}
 use Rattle.steps.specs.Steps.{EntryStep, NodeStep}
 use Rattle.steps.specs.Kept.{kept_size, KeptAt}
 use Rattle.steps.proofs.Kept.{kept_later}

@@ -1,6 +1,7 @@
 // Starting times and response bounds of one flow, from a sheet of numbers that hangs neither on the instant nor on W. Sheet, starting times,
 // steps and bounds are lent, so nothing here has a size.
 #![tactic(auto)]
+
 ghost use Rattle.std.specs.Prelude.{◌≡◌, false, ◌+◌, ◌-◌, ◌<◌, ◌≤◌, length};
 ghost use Rattle.least.specs.Fixed.{Under};
 ghost use Rattle.least.specs.Lists.{values, Inside};
@@ -114,7 +115,7 @@ fn instant(
 fn keep(e: &[u64], steps: &mut [u64], m: usize, stride: usize, from: u64, u: u64, end: u64) -> u64
     requires shaped { Shaped e.now m × (from ≤ u) × (u < end) × (end ≤ most_instant) × Strided e.now stride m steps.old }
     requires kept_to { from < u → KeptTo e.now stride end (u - 1) steps.old m }
-    ensures kept_to_2 { KeptTo e.now stride end u steps.new m × SheetStep e.now m u end result }
+    ensures kept_now { KeptTo e.now stride end u steps.new m × SheetStep e.now m u end result }
     ensures steps_len_unchanged { length steps.new ≡ length steps.old }
 {
     let mut next = end;

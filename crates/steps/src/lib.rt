@@ -1,6 +1,7 @@
 // When the sum at a node steps up next, and what a walk over the instants keeps of the node: begun at its first instant, taken on at each later one.
 // Sheet and steps are lent, so nothing here has a size.
 #![tactic(auto)]
+
 ghost use Rattle.std.specs.Prelude.{◌≡◌, ◌+◌, ◌-◌, ◌<◌, ◌≤◌, length};
 ghost use Rattle.least.specs.Count.{count};
 ghost use Rattle.least.specs.Lists.{values, Inside};
@@ -121,7 +122,7 @@ fn advance_entry(
 fn advance_node(e: &[u64], steps: &mut [u64], p: usize, at: usize, u: u64, end: u64) -> u64
     requires shaped { Shaped e.now (p + 1) × (0 < u) × (u < end) × (end ≤ most_instant) × (at + kept_size + entries_in e.now p ≤ length steps.old) × (length steps.old ≤ 16777216) }
     requires kept_at { KeptAt e.now end (u - 1) steps.old p at }
-    ensures kept_at_2 { KeptAt e.now end u steps.new p at × NodeStep e.now p u end result }
+    ensures kept_now { KeptAt e.now end u steps.new p at × NodeStep e.now p u end result }
     ensures inside { Inside at (at + kept_size + entries_in e.now p) steps.old steps.new }
 {
     let step = steps[at + 1];
@@ -163,7 +164,7 @@ pub fn keep_node(
 ) -> u64
     requires shaped { Shaped e.now (p + 1) × (from ≤ u) × (u < end) × (end ≤ most_instant) × (at + kept_size + entries_in e.now p ≤ length steps.old) × (length steps.old ≤ 16777216) }
     requires kept_at { from < u → KeptAt e.now end (u - 1) steps.old p at }
-    ensures kept_at_2 { KeptAt e.now end u steps.new p at × NodeStep e.now p u end result }
+    ensures kept_now { KeptAt e.now end u steps.new p at × NodeStep e.now p u end result }
     ensures inside { Inside at (at + kept_size + entries_in e.now p) steps.old steps.new }
 {
     if u == from {

@@ -29,7 +29,7 @@ use Rattle.row.proofs.Sets.{insert_rising, without_rising, insert_each, without_
 use Rattle.row.proofs.Valid.{readable_valid, readable_none}
 use Rattle.engine.specs.Verdicts.{cause_of, refused, given, verdict_from, verdict_of}
 use Rattle.table.specs.Calls.{empty_table, answered, unless, fresh_answer, holding, decided, judged_row, admitted, withdrawn_by, withdrawn}
-use Rattle.table.specs.Made.{Made, by-fresh, by-admit, by-withdraw}
+use Rattle.table.specs.Made.{Made, by_fresh, by_admit, by_withdraw}
 use Rattle.table.proofs.Nets.{none_accepted, part_accepted}
 
 pub record Right (t : Table) : Type 0 where
@@ -179,6 +179,6 @@ module _ (t : Table) (r : Right t) (number : ℕ) where
           shown = rw (held-row_of fewer, fewer_given.1)
 
 pub made-right : (t : Table) → Made t → Right t
-made-right t (by-fresh lmin lmax) = fresh-right lmin lmax
-made-right t (by-admit {t = s} f m u) = admit_right s (made-right s m) f u
-made-right t (by-withdraw {t = s} number m) = withdraw_right s (made-right s m) number
+made-right t (by_fresh lmin lmax) = fresh-right lmin lmax
+made-right t (by_admit {t = s} f m u) = admit_right s (made-right s m) f u
+made-right t (by_withdraw {t = s} number m) = withdraw_right s (made-right s m) number

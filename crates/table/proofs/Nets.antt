@@ -58,13 +58,13 @@ module _ (N : Net) where
 -- a part of an accepted set, in the same network, is accepted
 module _ (N N' : Net) (lmin : N.lmin ≡ N'.lmin) (lmax : N.lmax ≡ N'.lmax) (some : Sublistᴰ N.flows N'.flows) (v' : Valid N') where
   module _ (gs' : List Figures) (a' : Accepting N' gs') where
-    whole-busy : (i : Flow) → Here N' i → (B : ℕ) × IsBusy N' i B
-    whole-busy i m = ((a'.figure i).busy, (a'.figures i m).busy)
+    whole_busy : (i : Flow) → Here N' i → (B : ℕ) × IsBusy N' i B
+    whole_busy i m = ((a'.figure i).busy, (a'.figures i m).busy)
 
     -- its least settled arrival bounds are at most those of the whole
     pub part_lower : (S : Arrivals) → LeastSettled N S → S ⊑ a'.arrivals
     part_lower S l k =
-        let w = withdraw_settled N N' lmin lmax some v' whole-busy a'.arrivals a'.least.settled in
+        let w = withdraw_settled N N' lmin lmax some v' whole_busy a'.arrivals a'.least.settled in
         le_trans (l.lowest w.0 w.1.settled k) (w.2 k)
 
     part-given : (v : Judgement) → Judged N v → (gs : List Figures) × (v ≡ Given gs)
@@ -74,7 +74,7 @@ module _ (N N' : Net) (lmin : N.lmin ≡ N'.lmin) (lmax : N.lmax ≡ N'.lmax) (s
         let w = withdraw_busy N N' lmin lmax some v' a.flow a.here _ (a'.figures a.flow (mem_sublist some a.here)).busy in
         absurd (a.fault w.0 w.1)
     part-given v (passes x p (passes y q (unsettled u))) =
-        let w = withdraw_settled N N' lmin lmax some v' whole-busy a'.arrivals a'.least.settled in
+        let w = withdraw_settled N N' lmin lmax some v' whole_busy a'.arrivals a'.least.settled in
         absurd (u w.0 w.1.settled)
     part-given v (passes x p (passes y q (settled w S f l r (applies n a)))) =
         let m' = mem_sublist some a.here in

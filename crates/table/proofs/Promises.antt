@@ -18,7 +18,7 @@ use Rattle.row.specs.declared.Found.{Found}
 use Rattle.row.specs.declared.Found.TheVariants.{At, Nothing}
 use Rattle.row.specs.Rows.{found_in, inserted, entry_cause}
 use Rattle.table.specs.Calls.{empty_table, answered, unless, fresh_answer, holding, decided, judged_row, admitted, withdrawn_by, withdrawn, asked_for}
-use Rattle.table.specs.Made.{Made, by-fresh, by-admit, by-withdraw}
+use Rattle.table.specs.Made.{Made, by_fresh, by_admit, by_withdraw}
 use Rattle.table.specs.Demands.{Present, Stored, Sound, SameLinks, Freshly, Admitting, Gone, Withdrawing, Asking}
 use Rattle.table.proofs.Calls.{none_present, admit_has, admit_keeps, admit_only, admit_old, withdraw_refused, ask_refused}
 use Rattle.table.proofs.Figures.{made-figured}
@@ -32,30 +32,30 @@ made-sound t m = record { made = m; figured = made-figured t m; only = λ u n e.
 -- ---- fresh
 module _ (lmin lmax : ℕ) where
   -- the answer, by whether the link delays are accepted
-  abbrev freshBy : Bool → Answer
-  freshBy b = cond b (answered Accepted (empty_table lmin lmax)) (answered (delay_cause lmin lmax) (empty_table 0 0))
+  abbrev fresh_by : Bool → Answer
+  fresh_by b = cond b (answered Accepted (empty_table lmin lmax)) (answered (delay_cause lmin lmax) (empty_table 0 0))
 
-  fresh-cause : (b : Bool) → accepted_by (delay_cause lmin lmax) ≡ b → (freshBy b).cause ≡ delay_cause lmin lmax
+  fresh_cause : (b : Bool) → accepted_by (delay_cause lmin lmax) ≡ b → (fresh_by b).cause ≡ delay_cause lmin lmax
   unfolding answered
-  fresh-cause true e = sym (accepted_only (delay_cause lmin lmax) e)
-  fresh-cause false e = refl
+  fresh_cause true e = sym (accepted_only (delay_cause lmin lmax) e)
+  fresh_cause false e = refl
 
-  fresh-place : (b : Bool) → (freshBy b).place ≡ 0
+  fresh-place : (b : Bool) → (fresh_by b).place ≡ 0
   unfolding answered
   fresh-place true = refl
   fresh-place false = refl
 
-  fresh-empty : (b : Bool) (f : Flow) → Present (freshBy b).table f → ⊥
+  fresh_empty : (b : Bool) (f : Flow) → Present (fresh_by b).table f → ⊥
   unfolding answered
-  fresh-empty true f p = none_present lmin lmax f p
-  fresh-empty false f p = none_present 0 0 f p
+  fresh_empty true f p = none_present lmin lmax f p
+  fresh_empty false f p = none_present 0 0 f p
 
-  fresh-links : (b : Bool) → accepted_by (delay_cause lmin lmax) ≡ b → (freshBy b).cause ≡ Accepted → ((freshBy b).table.lmin ≡ lmin) × ((freshBy b).table.lmax ≡ lmax)
+  fresh-links : (b : Bool) → accepted_by (delay_cause lmin lmax) ≡ b → (fresh_by b).cause ≡ Accepted → ((fresh_by b).table.lmin ≡ lmin) × ((fresh_by b).table.lmax ≡ lmax)
   unfolding answered empty_table
   fresh-links true e h = (refl, refl)
   fresh-links false e h = absurd (refused-never (delay_cause lmin lmax) e h)
 
-  fresh-none : (b : Bool) → ((freshBy b).cause ≡ Accepted → ⊥) → ((freshBy b).table.lmin ≡ 0) × ((freshBy b).table.lmax ≡ 0)
+  fresh-none : (b : Bool) → ((fresh_by b).cause ≡ Accepted → ⊥) → ((fresh_by b).table.lmin ≡ 0) × ((fresh_by b).table.lmax ≡ 0)
   unfolding answered empty_table
   fresh-none true never = absurd (never refl)
   fresh-none false never = (refl, refl)
@@ -65,12 +65,12 @@ module _ (lmin lmax : ℕ) where
   freshly =
       let b = accepted_by (delay_cause lmin lmax) in
       record {
-        cause = delays_given lmin lmax (freshBy b).cause (fresh-cause b refl);
+        cause = delays_given lmin lmax (fresh_by b).cause (fresh_cause b refl);
         place = fresh-place b;
-        empty = fresh-empty b;
+        empty = fresh_empty b;
         accepted = fresh-links b refl;
         refused = fresh-none b;
-        sound = made-sound (fresh_answer lmin lmax).table (by-fresh lmin lmax);
+        sound = made-sound (fresh_answer lmin lmax).table (by_fresh lmin lmax);
       }
 
   pub fresh_promise : (r : Answer) → r ≡ fresh_answer lmin lmax → Freshly lmin lmax r
@@ -79,18 +79,18 @@ module _ (lmin lmax : ℕ) where
 -- ---- admit
 module _ (t : Table) (f : Flow) where
   -- the answer, by whether the flow and the enlarged set are accepted
-  abbrev admittedBy : Bool → Bool → Answer
-  admittedBy b d =
+  abbrev admitted_by : Bool → Bool → Answer
+  admitted_by b d =
       let row = inserted t.row f in
       cond b (cond d (answered Accepted (holding t row (judged_row t row).figures)) (answered (judged_row t row).cause t)) (answered (entry_cause (held t.row) f) t)
 
-  admit-place : (b d : Bool) → (admittedBy b d).place ≡ 0
+  admit-place : (b d : Bool) → (admitted_by b d).place ≡ 0
   unfolding answered
   admit-place true true = refl
   admit-place true false = refl
   admit-place false d = refl
 
-  admit-links : (b d : Bool) → SameLinks (admittedBy b d).table t
+  admit-links : (b d : Bool) → SameLinks (admitted_by b d).table t
   unfolding answered holding
   admit-links true true = (refl, refl)
   admit-links true false = (refl, refl)
@@ -108,7 +108,7 @@ module _ (t : Table) (f : Flow) where
         refused = λ never. ap (λ (a : Answer). a.table) (admit_old t f never);
         links = admit-links b d;
         present = λ a g. (λ p. admit_only t f u a g p, λ q. ⊎_elim (λ (e : g ≡ f). rw e (admit_has t f u a)) (λ (p : Present t g). admit_keeps t f u a g p) q);
-        sound = made-sound (admitted t f).table (by-admit f m u);
+        sound = made-sound (admitted t f).table (by_admit f m u);
       }
 
   pub admit_promise : (r : Answer) → Typed f → (Made t → r ≡ admitted t f) → Made t → Admitting t f r
@@ -141,7 +141,7 @@ module _ (t : Table) (number : ℕ) where
     absent = λ a. let e = withdraw_refused t number a in (ap (λ (r : Answer). r.cause) e, ap (λ (r : Answer). r.table) e);
     present = λ f p e. subst (λ (n : ℕ). Gone t f (withdrawn t n)) e (gone m f p);
     links = withdraw-links (found_in (held t.row) number);
-    sound = made-sound (withdrawn t number).table (by-withdraw number m);
+    sound = made-sound (withdrawn t number).table (by_withdraw number m);
   }
 
   pub withdraw_promise : (r : Answer) → (Made t → r ≡ withdrawn t number) → Made t → Withdrawing t number r

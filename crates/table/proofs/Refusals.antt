@@ -28,7 +28,7 @@ use Rattle.row.proofs.Valid.{readable_valid}
 use Rattle.engine.specs.Verdicts.{refused, given, verdict_from}
 use Rattle.table.specs.Calls.{answered, unless, admitted}
 use Rattle.table.specs.Made.{Made}
-use Rattle.table.specs.Demands.{enlarged_net, CrossingPermitted, Unfit, no-busy-length, not-settled, past-deadline, OfAdmission, by-entry, by-set}
+use Rattle.table.specs.Demands.{enlarged_net, CrossingPermitted, Unfit, no_busy-length, not-settled, past_deadline, OfAdmission, by-entry, by-set}
 use Rattle.table.proofs.Nets.{accepting}
 use Rattle.table.proofs.Kept.{admit_kept, admit_decided, made-right}
 use Rattle.table.proofs.Calls.{decided_cause, admit_done}
@@ -41,16 +41,16 @@ module _ (N : net.Net) (v : Valid N) where
   faults : CrossingPermitted N → (w : net.Judgement) → Judged N w → ((verdict_from w).cause ≡ Accepted → ⊥) → Unfit N
   unfolding verdict_from refused given
   faults placed w (applies n a) never = absurd (a.fault (placed a.flow a.here))
-  faults placed w (passes x p (applies n a)) never = no-busy-length a.flow a.here a.fault
+  faults placed w (passes x p (applies n a)) never = no_busy-length a.flow a.here a.fault
   faults placed w (passes x p (passes y q (unsettled u))) never = not-settled u
   faults placed w (passes x p (passes y q (settled z S f l r (applies n a)))) never =
-      past-deadline S a.flow (f a.flow).bound l a.here (r a.flow a.here).bound a.fault
+      past_deadline S a.flow (f a.flow).bound l a.here (r a.flow a.here).bound a.fault
   faults placed w (passes x p (passes y q (settled z S f l r (passes u d g)))) never = absurd (never (ap (λ (j : net.Judgement). (verdict_from j).cause) g))
 
   clear : Unfit N → (gs : _) → judged N ≡ net.Given gs → ⊥
-  clear (no-busy-length i m n) gs e = let k = accepting N (judged N) gs e (judged_is N v) in n _ (k.figures i m).busy
+  clear (no_busy-length i m n) gs e = let k = accepting N (judged N) gs e (judged_is N v) in n _ (k.figures i m).busy
   clear (not-settled u) gs e = let k = accepting N (judged N) gs e (judged_is N v) in u _ k.least.settled
-  clear (past-deadline S i b l m p d) gs e =
+  clear (past_deadline S i b l m p d) gs e =
       let k = accepting N (judged N) gs e (judged_is N v) in
       omega (arith, d, k.timely i m, bound-below S k.arrivals l k.least i m b _ p (k.figures i m).bound)
 
@@ -62,40 +62,40 @@ module _ (t : Table) (made : Made t) (f : Flow) (u : Typed f) where
     enlarged-valid : Valid N
     enlarged-valid = readable_valid t.lmin t.lmax (insert_sorted f (held t.row)) (admit_kept t f n (made-right t made).set u)
 
-    set-cause : (admitted t f).cause ≡ (verdict_from (judged N)).cause
-    set-cause =
+    set_cause : (admitted t f).cause ≡ (verdict_from (judged N)).cause
+    set_cause =
         ap (λ (a : Answer). a.cause) (admit_decided t f n (entered (held t.row) f u n)) ∙
         decided_cause t (row_of (insert_sorted f (held t.row))) (verdict_from (judged N))
 
     -- Refused exactly if a flow has no busy length, or no arrival bounds are settled, or a bound is past its deadline
     pub refused_exactly : CrossingPermitted N → Exactly ((admitted t f).cause ≡ Accepted → ⊥) (Unfit N)
     refused_exactly placed = (
-      λ never. faults N enlarged-valid placed (judged N) (judged_is N enlarged-valid) (λ h. never (set-cause ∙ h)),
+      λ never. faults N enlarged-valid placed (judged N) (judged_is N enlarged-valid) (λ h. never (set_cause ∙ h)),
       λ bad a. let d = admit_done t f u a in clear N enlarged-valid bad d.givens d.judgement,
     )
 
   -- Each refusal from 2 to 10 is given exactly when the rules say so, with the least flow at fault
-  entry-cause : (entry_cause (held t.row) f ≡ Accepted → ⊥) → (admitted t f).cause ≡ entry_cause (held t.row) f
+  entry_cause_lem : (entry_cause (held t.row) f ≡ Accepted → ⊥) → (admitted t f).cause ≡ entry_cause (held t.row) f
   unfolding admitted unless answered
-  entry-cause never = rw (not_accepted (entry_cause (held t.row) f) never)
+  entry_cause_lem never = rw (not_accepted (entry_cause (held t.row) f) never)
 
-  of-admission : OfAdmission t f (admitted t f).cause
-  of-admission = go (accepted_by (entry_cause (held t.row) f)) refl
+  of_admission : OfAdmission t f (admitted t f).cause
+  of_admission = go (accepted_by (entry_cause (held t.row) f)) refl
     where
       go : (b : Bool) → accepted_by (entry_cause (held t.row) f) ≡ b → OfAdmission t f (admitted t f).cause
       go true e =
           let n = enters (held t.row) f u (accepted_only (entry_cause (held t.row) f) e) in
-          subst (OfAdmission t f) (sym (set-cause n)) (by-set (judged N) n (judged_is N (enlarged-valid n)))
+          subst (OfAdmission t f) (sym (set_cause n)) (by-set (judged N) n (judged_is N (enlarged-valid n)))
       go false e =
           let never = refused-never (entry_cause (held t.row) f) e in
-          subst (OfAdmission t f) (sym (entry-cause never)) (by-entry _ never ((entry_exact (held t.row) f u _).0 refl))
+          subst (OfAdmission t f) (sym (entry_cause_lem never)) (by-entry _ never ((entry_exact (held t.row) f u _).0 refl))
 
   admission-only : (c : Cause) → OfAdmission t f c → c ≡ (admitted t f).cause
   admission-only c (by-entry d never o) =
       let e = (entry_exact (held t.row) f u d).1 o in
-      sym (entry-cause (λ h. never (sym e ∙ h)) ∙ e)
+      sym (entry_cause_lem (λ h. never (sym e ∙ h)) ∙ e)
   admission-only c (by-set v n j) =
-      ap (λ (w : net.Judgement). (verdict_from w).cause) (judged_unique N (enlarged-valid n) v (judged N) j (judged_is N (enlarged-valid n))) ∙ sym (set-cause n)
+      ap (λ (w : net.Judgement). (verdict_from w).cause) (judged_unique N (enlarged-valid n) v (judged N) j (judged_is N (enlarged-valid n))) ∙ sym (set_cause n)
 
   pub admission_exact : Exact (admitted t f).cause (OfAdmission t f)
-  admission_exact = exact_from (OfAdmission t f) (admitted t f).cause of-admission admission-only
+  admission_exact = exact_from (OfAdmission t f) (admitted t f).cause of_admission admission-only

@@ -27,7 +27,7 @@ use Rattle.row.specs.Sets.{Enters}
 use Rattle.row.proofs.Sets.{same_flows, without_only, entered}
 use Rattle.engine.specs.Verdicts.{given, verdict_from}
 use Rattle.table.specs.Calls.{empty_table, answered, unless, fresh_answer, holding, decided, judged_row, admitted, withdrawn_by, withdrawn}
-use Rattle.table.specs.Made.{Made, by-fresh, by-admit}
+use Rattle.table.specs.Made.{Made, by_fresh, by_admit}
 use Rattle.table.specs.Demands.{Present, SameSet}
 use Rattle.table.proofs.Kept.{Right, empty_right, admit_decided, withdraw_right, made-right}
 use Rattle.table.proofs.Figures.{right_valid, found_present}
@@ -141,12 +141,12 @@ module _ (t : Table) (r : Right t) (f : Flow) (m : Present t f) where
       admit_decided s f n (entered (held s.row) f typed n) ∙ ap (λ (v : net.Judgement). decided s (row_of (insert_sorted f (held s.row))) (verdict_from v)) j ∙
       ap (answered Accepted) (same_parts u t a b (ap row_of e ∙ sym r.row) (sym r.figures))
 
-  right-again : admitted (withdrawn t f.number).table f ≡ answered Accepted t
-  right-again = readmitted (withdrawn t f.number).table withdraw_lmin withdraw_lmax withdraw_held
+  right_again : admitted (withdrawn t f.number).table f ≡ answered Accepted t
+  right_again = readmitted (withdrawn t f.number).table withdraw_lmin withdraw_lmax withdraw_held
 
 -- A flow that was withdrawn is admitted again, and gives the table as it was. RULES, tables
 pub withdraw_admit : (t : Table) → Made t → (f : Flow) → Present t f → admitted (withdrawn t f.number).table f ≡ answered Accepted t
-withdraw_admit t m f p = right-again t (made-right t m) f p
+withdraw_admit t m f p = right_again t (made-right t m) f p
 
 -- ---- any accepted set
 right_fresh : (t : Table) → Right t → held t.row ≡ [] → t ≡ (fresh_answer t.lmin t.lmax).table
@@ -156,7 +156,7 @@ right_fresh t r h =
 
 made_in : (n : ℕ) (t : Table) → Right t → length (held t.row) ≡ n → Made t
 unfolding answered without
-made_in zero t r e = subst Made (sym (right_fresh t r (none (held t.row) e))) (by-fresh t.lmin t.lmax)
+made_in zero t r e = subst Made (sym (right_fresh t r (none (held t.row) e))) (by_fresh t.lmin t.lmax)
   where
     none : (fs : List Flow) → length fs ≡ 0 → fs ≡ []
     none [] l = refl
@@ -170,7 +170,7 @@ made_in (suc n) t r e = go (held t.row) refl (λ s q l. made_in n s q l)
         let q : held (withdrawn t f.number).table.row ≡ fs =
         withdraw_held t r f m ∙ ap (without f.number) h ∙ rw (eq-eqb f.number f.number refl) in
         let k = ih (withdrawn t f.number).table (withdraw_right t r f.number) (omega (arith, ap length q, ap length h)) in
-        subst Made (ap (λ (a : Answer). a.table) (right-again t r f m)) (by-admit f k (each_member _ (held t.row) r.set.typed m))
+        subst Made (ap (λ (a : Answer). a.table) (right_again t r f m)) (by_admit f k (each_member _ (held t.row) r.set.typed m))
 
 -- A set that every refusal lets pass, with its figures, is a table that calls make
 pub right_made : (t : Table) → Right t → Made t

@@ -74,9 +74,9 @@ CrossingPermitted N = (i : net.Flow) → Here N i → Permitted N i
 
 -- a flow without a busy length, or no settled arrival bounds within the horizon, or a bound past a deadline
 pub data Unfit (N : net.Net) : Type 0 where
-  no-busy-length : (i : net.Flow) → Here N i → ((B : ℕ) → IsBusy N i B → ⊥) → Unfit N
+  no_busy-length : (i : net.Flow) → Here N i → ((B : ℕ) → IsBusy N i B → ⊥) → Unfit N
   not-settled : ((S : Arrivals) → Settled N S → ⊥) → Unfit N
-  past-deadline : (S : Arrivals) (i : net.Flow) (b : ℕ) → LeastSettled N S → Here N i → IsBound N i S b → i.deadline < b → Unfit N
+  past_deadline : (S : Arrivals) (i : net.Flow) (b : ℕ) → LeastSettled N S → Here N i → IsBound N i S b → i.deadline < b → Unfit N
 
 -- the lowest refusal from 2 to 10 that applies, with the least flow at fault: 2 to 6 of the flow, then the judgement of the enlarged set that is meant
 pub data OfAdmission (t : Table) (f : Flow) : Cause → Type 0 where

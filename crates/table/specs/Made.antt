@@ -6,6 +6,6 @@ use Rattle.flows.specs.WellFormed.{Typed}
 use Rattle.table.specs.Calls.{fresh_answer, admitted, withdrawn}
 
 pub data Made : Table → Type 0 where
-  by-fresh : (lmin lmax : ℕ) → Made (fresh_answer lmin lmax).table
-  by-admit : {t : Table} (f : Flow) → Made t → Typed f → Made (admitted t f).table
-  by-withdraw : {t : Table} (number : ℕ) → Made t → Made (withdrawn t number).table
+  by_fresh : (lmin lmax : ℕ) → Made (fresh_answer lmin lmax).table
+  by_admit : {t : Table} (f : Flow) → Made t → Typed f → Made (admitted t f).table
+  by_withdraw : {t : Table} (number : ℕ) → Made t → Made (withdrawn t number).table

@@ -72,9 +72,9 @@ module _ (e best : List ℕ) (p u k : ℕ) (slot : values e k < node_slot p) whe
     unfolding term_of
     entry_first = ap (λ c. c * values e (k + 4)) (same a (values e (k + 2)) (omega arith) ∙ ap (λ x. count x (values e (k + 2)) (values e (k + 3))) is)
 
-    entry-term : Fits e best p u → (i : ℕ) → i ≤ 16777216 → count (i + a) (values e (k + 2)) t * values e (k + 4) ≡ term_of e (ceilings e best p (u + i)) k
+    entry_term : Fits e best p u → (i : ℕ) → i ≤ 16777216 → count (i + a) (values e (k + 2)) t * values e (k + 4) ≡ term_of e (ceilings e best p (u + i)) k
     unfolding term_of
-    entry-term fits i h = ap (λ c. c * values e (k + 4)) (
+    entry_term fits i h = ap (λ c. c * values e (k + 4)) (
         same (i + a) (values e (k + 2)) (omega arith)
         ∙ ap (λ x. count x (values e (k + 2)) (values e (k + 3))) (omega (arith, is, ceilings_on e best p u (values e k) slot fits i))
         )
@@ -83,7 +83,7 @@ module _ (e best : List ℕ) (p u k : ℕ) (slot : values e k < node_slot p) whe
         Laid (λ i. term_of e (ceilings e best p (u + i)) k) n tally tally'
     entry_laid fits n short tally tally' l = record {
       first = l.first;
-      each = λ i h. omega (arith, l.each i h, entry-term fits i (omega arith), entry-term fits (i + 1) (omega arith));
+      each = λ i h. omega (arith, l.each i h, entry_term fits i (omega arith), entry_term fits (i + 1) (omega arith));
       long = l.long;
     }
 

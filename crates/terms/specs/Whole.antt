@@ -9,52 +9,52 @@ use Rattle.crossings.specs.Pairs.{cost_on, along_to}
 
 module _ (net : List ℕ) (a : ℕ) where
   -- what b brings to M's least at place k, to the greatest cost there on the prefix at place p, to the greatest lower cost
-  unfoldable pub leastBy : ℕ → ℕ → ℕ
-  leastBy k b =
+  unfoldable pub least_by : ℕ → ℕ → ℕ
+  least_by k b =
       pick (both (along_to net a b (length_in net a - 1)) (visits (path_in net b) (hop_in net a k).node)) (cost_on net a b k) (hop_in net a k).cost
 
-  unfoldable pub greatestBy : ℕ → ℕ → ℕ → ℕ
-  greatestBy p k b = pick (along_to net a b p) (cost_on net a b k) 0
+  unfoldable pub greatest_by : ℕ → ℕ → ℕ → ℕ
+  greatest_by p k b = pick (along_to net a b p) (cost_on net a b k) 0
 
-  unfoldable pub lowerBy : ℕ → ℕ → ℕ
-  lowerBy k b = pick (lower (role (flow_in net a) (flow_in net b))) (cost_on net a b k) 0
+  unfoldable pub lower_by : ℕ → ℕ → ℕ
+  lower_by k b = pick (lower (role (flow_in net a) (flow_in net b))) (cost_on net a b k) 0
 
-  unfoldable pub leastOver : ℕ → ℕ
-  leastOver k = min_to (hop_in net a k).cost (count_in net) (leastBy k)
+  unfoldable pub least_over : ℕ → ℕ
+  least_over k = min_to (hop_in net a k).cost (count_in net) (least_by k)
 
-  unfoldable pub greatestOver : ℕ → ℕ → ℕ
-  greatestOver p k = max (hop_in net a k).cost (max_to (count_in net) (greatestBy p k))
+  unfoldable pub greatest_over : ℕ → ℕ → ℕ
+  greatest_over p k = max (hop_in net a k).cost (max_to (count_in net) (greatest_by p k))
 
-  unfoldable pub lowerOver : ℕ → ℕ
-  lowerOver k = max_to (count_in net) (lowerBy k)
+  unfoldable pub lower_over : ℕ → ℕ
+  lower_over k = max_to (count_in net) (lower_by k)
 
   -- of the places s and k the slower one: s, if both are equal
-  unfoldable pub slowerOf : ℕ → ℕ → ℕ
-  slowerOf s k = pick (ltb (hop_in net a s).cost (hop_in net a k).cost) k s
+  unfoldable pub slower_of : ℕ → ℕ → ℕ
+  slower_of s k = pick (ltb (hop_in net a s).cost (hop_in net a k).cost) k s
 
   -- the earliest slowest place up to place p
-  unfoldable pub slowestTo : ℕ → ℕ
-  slowestTo zero = 0
-  slowestTo (suc k) = slowerOf (slowestTo k) (suc k)
+  unfoldable pub slowest_to : ℕ → ℕ
+  slowest_to zero = 0
+  slowest_to (suc k) = slower_of (slowest_to k) (suc k)
 
   -- term 4 at each place, and on the prefix at place p, whose slowest place is s; term 5 on the first k places
-  unfoldable pub term4By : ℕ → ℕ → ℕ → ℕ
-  term4By p s k = pick (eqb k s) 0 (greatestOver p k)
+  unfoldable pub term4_by : ℕ → ℕ → ℕ → ℕ
+  term4_by p s k = pick (eqb k s) 0 (greatest_over p k)
 
-  unfoldable pub term4Over : ℕ → ℕ → ℕ
-  term4Over p s = sum_to (p + 1) (term4By p s)
+  unfoldable pub term4_over : ℕ → ℕ → ℕ
+  term4_over p s = sum_to (p + 1) (term4_by p s)
 
-  unfoldable pub term5Over : ℕ → ℕ
-  term5Over k = sum_to k (λ j. lowerOver j - 1)
+  unfoldable pub term5_over : ℕ → ℕ
+  term5_over k = sum_to k (λ j. lower_over j - 1)
 
   -- what hangs on nothing, with term 5 on the prefix at place p
-  unfoldable pub baseOver : ℕ → ℕ → ℕ
-  baseOver p term5 =
-      term4Over p (slowestTo p) + term5 + p * values net 3 + (hop_in net a (slowestTo p)).cost - (hop_in net a p).cost
+  unfoldable pub base_over : ℕ → ℕ → ℕ
+  base_over p term5 =
+      term4_over p (slowest_to p) + term5 + p * values net 3 + (hop_in net a (slowest_to p)).cost - (hop_in net a p).cost
 
   -- Smin and M behind the first k places
-  unfoldable pub sminOver : ℕ → ℕ
-  sminOver k = sum_to k (λ j. (hop_in net a j).cost + values net 2)
+  unfoldable pub smin_over : ℕ → ℕ
+  smin_over k = sum_to k (λ j. (hop_in net a j).cost + values net 2)
 
-  unfoldable pub wayOver : ℕ → ℕ
-  wayOver k = sum_to k (λ j. values net 2 + leastOver j)
+  unfoldable pub way_over : ℕ → ℕ
+  way_over k = sum_to k (λ j. values net 2 + least_over j)

@@ -1,14 +1,15 @@
 // What the formula takes at one place of a flow's path that hangs on no arrival bound: M's least cost, terms 4 to 6.
 #![tactic(auto)]
+
 ghost use Rattle.std.specs.Prelude.{◌≡◌, ◌-◌, ◌*◌, ◌≤◌, ◌<◌};
 ghost use Rattle.nets.specs.Nets.{Whole, count_in, room_in, length_in};
 ghost use Rattle.crossings.specs.Pairs.{Noted};
-ghost use Rattle.terms.specs.Whole.{leastBy, leastOver, greatestBy, greatestOver, slowerOf, slowestTo, term4By, term4Over, lowerBy, lowerOver, baseOver};
+ghost use Rattle.terms.specs.Whole.{least_by, least_over, greatest_by, greatest_over, slower_of, slowest_to, term4_by, term4_over, lower_by, lower_over, base_over};
 
 // What b brings to the least cost at place k of a's path.
 fn least_by(net: &[u16], pairs: &[u8], a: usize, b: usize, k: usize) -> u64
     requires { Noted net.now pairs.now a b × (k < length_in net.now a) }
-    ensures value { result ≡ leastBy net.now a k b }
+    ensures value { result ≡ least_by net.now a k b }
     ensures upper_bound { result ≤ 65535 }
 {
     let own = nets::cost(net, a, k);
@@ -24,7 +25,7 @@ fn least_by(net: &[u16], pairs: &[u8], a: usize, b: usize, k: usize) -> u64
 // The least cost at place k of a's path, for M.
 pub fn least_cost(net: &[u16], pairs: &[u8], a: usize, k: usize) -> u64
     requires { Noted net.now pairs.now a a × (k < length_in net.now a) }
-    ensures value { result ≡ leastOver net.now a k }
+    ensures value { result ≡ least_over net.now a k }
     ensures upper_bound { result ≤ 65535 }
 {
     let n = nets::count(net);
@@ -40,7 +41,7 @@ pub fn least_cost(net: &[u16], pairs: &[u8], a: usize, k: usize) -> u64
 // What b brings to the greatest cost at place k of a's prefix at place p.
 fn greatest_by(net: &[u16], pairs: &[u8], a: usize, b: usize, p: usize, k: usize) -> u64
     requires { Noted net.now pairs.now a b × (k ≤ p) × (p < length_in net.now a) }
-    ensures value { result ≡ greatestBy net.now a p k b }
+    ensures value { result ≡ greatest_by net.now a p k b }
     ensures upper_bound { result ≤ 65535 }
 {
     if !crossings::along(net, pairs, a, b, p) {
@@ -51,7 +52,7 @@ fn greatest_by(net: &[u16], pairs: &[u8], a: usize, b: usize, p: usize, k: usize
 
 fn greatest_cost(net: &[u16], pairs: &[u8], a: usize, p: usize, k: usize) -> u64
     requires { Noted net.now pairs.now a a × (k ≤ p) × (p < length_in net.now a) }
-    ensures value { result ≡ greatestOver net.now a p k }
+    ensures value { result ≡ greatest_over net.now a p k }
     ensures upper_bound { result ≤ 65535 }
 {
     let n = nets::count(net);
@@ -67,7 +68,7 @@ fn greatest_cost(net: &[u16], pairs: &[u8], a: usize, p: usize, k: usize) -> u64
 // The place at which a's cost is greater: the earlier one, if both are equal.
 fn slower(net: &[u16], a: usize, s: usize, k: usize) -> usize
     requires { Whole net.now × (a < count_in net.now) × (s < room_in net.now) × (k < room_in net.now) }
-    ensures { result ≡ slowerOf net.now a s k }
+    ensures { result ≡ slower_of net.now a s k }
 {
     if nets::cost(net, a, s) < nets::cost(net, a, k) {
         return k;
@@ -78,7 +79,7 @@ fn slower(net: &[u16], a: usize, s: usize, k: usize) -> usize
 // The earliest place of a's prefix at place p at which it is slowest.
 fn slowest_place(net: &[u16], a: usize, p: usize) -> usize
     requires { Whole net.now × (a < count_in net.now) × (p < length_in net.now a) }
-    ensures value { result ≡ slowestTo net.now a p }
+    ensures value { result ≡ slowest_to net.now a p }
     ensures upper_bound { result ≤ p }
 {
     let mut s: usize = 0;
@@ -93,7 +94,7 @@ fn slowest_place(net: &[u16], a: usize, p: usize) -> usize
 // The greatest cost at place k, but none at the slowest place.
 fn term4_at(net: &[u16], pairs: &[u8], a: usize, p: usize, s: usize, k: usize) -> u64
     requires { Noted net.now pairs.now a a × (k ≤ p) × (p < length_in net.now a) }
-    ensures value { result ≡ term4By net.now a p s k }
+    ensures value { result ≡ term4_by net.now a p s k }
     ensures upper_bound { result ≤ 65535 }
 {
     if k == s {
@@ -105,7 +106,7 @@ fn term4_at(net: &[u16], pairs: &[u8], a: usize, p: usize, s: usize, k: usize) -
 // Term 4 on a's prefix at place p, whose slowest place is s.
 fn term4(net: &[u16], pairs: &[u8], a: usize, p: usize, s: usize) -> u64
     requires { Noted net.now pairs.now a a × (p < length_in net.now a) }
-    ensures value { result ≡ term4Over net.now a p s }
+    ensures value { result ≡ term4_over net.now a p s }
     ensures upper_bound { result ≤ 63 * 65535 }
 {
     let mut sum: u64 = 0;
@@ -120,7 +121,7 @@ fn term4(net: &[u16], pairs: &[u8], a: usize, p: usize, s: usize) -> u64
 // What b brings to the greatest lower cost at place k.
 fn lower_by(net: &[u16], pairs: &[u8], a: usize, b: usize, k: usize) -> u64
     requires { Noted net.now pairs.now a b × (k < length_in net.now a) }
-    ensures value { result ≡ lowerBy net.now a k b }
+    ensures value { result ≡ lower_by net.now a k b }
     ensures upper_bound { result ≤ 65535 }
 {
     if crossings::side(net, pairs, a, b) == crossings::LOWER {
@@ -132,7 +133,7 @@ fn lower_by(net: &[u16], pairs: &[u8], a: usize, b: usize, k: usize) -> u64
 // The greatest lower cost at place k, less 1.
 pub fn lower_less_one(net: &[u16], pairs: &[u8], a: usize, k: usize) -> u64
     requires { Noted net.now pairs.now a a × (k < length_in net.now a) }
-    ensures value { result ≡ lowerOver net.now a k - 1 }
+    ensures value { result ≡ lower_over net.now a k - 1 }
     ensures upper_bound { result ≤ 65535 }
 {
     let n = nets::count(net);
@@ -148,7 +149,7 @@ pub fn lower_less_one(net: &[u16], pairs: &[u8], a: usize, k: usize) -> u64
 // What hangs on nothing at place p, with term 5 on the prefix there.
 pub fn base_of(net: &[u16], pairs: &[u8], a: usize, p: usize, term5: u64) -> u64
     requires { Noted net.now pairs.now a a × (p < length_in net.now a) × (term5 ≤ 63 * 65535) }
-    ensures value { result ≡ baseOver net.now a p term5 }
+    ensures value { result ≡ base_over net.now a p term5 }
     ensures upper_bound { result ≤ 12386115 }
 {
     let s = slowest_place(net, a, p);

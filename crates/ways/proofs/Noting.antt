@@ -14,7 +14,7 @@ use Rattle.least.proofs.Stores.{ahead_none, ahead_set, ahead_then}
 use Rattle.rules.specs.Valid.{Valid}
 use Rattle.nets.specs.Nets.{Whole, count_in, room_in, length_in, hop_in, net_in}
 use Rattle.ways.specs.Ways.{way_at, WayFits, WayIs, PlacesAre, WaysAre}
-use Rattle.terms.specs.Whole.{leastOver, lowerOver, sminOver, wayOver, term5Over, baseOver}
+use Rattle.terms.specs.Whole.{least_over, lower_over, smin_over, way_over, term5_over, base_over}
 use Rattle.terms.proofs.Whole.{smin_whole, way_whole, base_whole}
 
 -- three numbers written from a place on
@@ -22,8 +22,8 @@ module _ (l : List ℕ) (at x y z : ℕ) where
   abbrev pub wrote : List ℕ
   wrote = set (set (set l at x) (at + 1) y) (at + 2) z
 
-  wrote-ahead : Ahead at l wrote
-  wrote-ahead =
+  wrote_ahead : Ahead at l wrote
+  wrote_ahead =
       ahead_set at l _ (ahead_set at l _ (ahead_set at l l (ahead_none at l) at x (omega arith)) (at + 1) y (omega arith)) (at + 2) z (omega arith)
 
   module _ (room : at + 2 < length l) where
@@ -75,23 +75,23 @@ module _ (net : List ℕ) where
 
   -- the sums, with one place more
   module _ (a k : ℕ) where
-    pub smin_more : sminOver net a (k + 1) ≡ sminOver net a k + ((hop_in net a k).cost + values net 2)
-    unfolding sminOver
+    pub smin_more : smin_over net a (k + 1) ≡ smin_over net a k + ((hop_in net a k).cost + values net 2)
+    unfolding smin_over
     smin_more = sum_to_more _ k
 
-    pub way_more : wayOver net a (k + 1) ≡ wayOver net a k + (values net 2 + leastOver net a k)
-    unfolding wayOver
+    pub way_more : way_over net a (k + 1) ≡ way_over net a k + (values net 2 + least_over net a k)
+    unfolding way_over
     way_more = sum_to_more _ k
 
-    pub term5_more : term5Over net a (k + 1) ≡ term5Over net a k + (lowerOver net a k - 1)
-    unfolding term5Over
+    pub term5_more : term5_over net a (k + 1) ≡ term5_over net a k + (lower_over net a k - 1)
+    unfolding term5_over
     term5_more = sum_to_more _ k
 
   module _ (l₀ l : List ℕ) (a k : ℕ) (here : a < count_in net) (in_path : k < length_in net a) (going : Going l₀ l a k)
       (at : ℕ) (e : at ≡ way_at net a k) (room : at + 2 < length l)
-      (x : ℕ) (x-is : x ≡ sminOver net a k) (x_Fits : x ≤ 8257410)
-      (y : ℕ) (y-is : y ≡ wayOver net a k) (y-fits : y ≤ 8257410)
-      (t : ℕ) (t-is : t ≡ term5Over net a (k + 1)) (z : ℕ) (z-is : z ≡ baseOver net a k t) (z-fits : z ≤ 12386115) where
+      (x : ℕ) (x-is : x ≡ smin_over net a k) (x_Fits : x ≤ 8257410)
+      (y : ℕ) (y-is : y ≡ way_over net a k) (y-fits : y ≤ 8257410)
+      (t : ℕ) (t-is : t ≡ term5_over net a (k + 1)) (z : ℕ) (z-is : z ≡ base_over net a k t) (z-fits : z ≤ 12386115) where
     abbrev l' : List ℕ
     l' = wrote l at x y z
 
@@ -111,25 +111,25 @@ module _ (net : List ℕ) where
     is-here v = record {
       smin = first ∙ x-is ∙ smin_whole net a k (omega arith);
       way = second ∙ y-is ∙ way_whole net a v here k (omega arith);
-      base = third ∙ z-is ∙ ap (baseOver net a k) t-is ∙ base_whole net a v here k in_path;
+      base = third ∙ z-is ∙ ap (base_over net a k) t-is ∙ base_whole net a v here k in_path;
     }
 
     pub going_more : Going l₀ l' a (k + 1)
     going_more = record {
       places = record { fit = fit; is = is };
-      ahead = ahead_then _ l₀ l going.ahead l' at (omega arith) (wrote-ahead l at x y z);
+      ahead = ahead_then _ l₀ l going.ahead l' at (omega arith) (wrote_ahead l at x y z);
     }
       where
         fit : (j : ℕ) → j < k + 1 → WayFits net l' a j
         fit j h = elim (le_or-lt k j) [
           | inl q ↦ subst (WayFits net l' a) (let s : k ≡ j = omega arith in s) fits-here
-          | inr q ↦ fits_kept at net l l' (wrote-ahead l at x y z) a j (omega arith) (going.places.fit j q)
+          | inr q ↦ fits_kept at net l l' (wrote_ahead l at x y z) a j (omega arith) (going.places.fit j q)
         ]
 
         is : Valid (net_in net) → (j : ℕ) → j < k + 1 → WayIs net l' a j
         is v j h = elim (le_or-lt k j) [
           | inl q ↦ subst (WayIs net l' a) (let s : k ≡ j = omega arith in s) (is-here v)
-          | inr q ↦ is-kept at net l l' (wrote-ahead l at x y z) a j (omega arith) (going.places.is v j q)
+          | inr q ↦ is-kept at net l l' (wrote_ahead l at x y z) a j (omega arith) (going.places.is v j q)
         ]
 
   pub going_end : {l₀ l : List ℕ} {a k : ℕ} → (m : ℕ) → Going l₀ l a k → m ≡ length_in net a → k ≤ m → m ≤ k →

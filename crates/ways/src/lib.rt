@@ -1,5 +1,6 @@
 // What the formula takes of each place of a flow's path that hangs on no arrival bound, noted once, in lent numbers: Smin, M, terms 4 to 6.
 #![tactic(auto)]
+
 ghost use Rattle.std.specs.Prelude.{◌≡◌, ◌+◌, ◌*◌, ◌≤◌, length, take};
 ghost use Rattle.least.specs.Lists.{Ahead};
 ghost use Rattle.rules.specs.Valid.{Valid};

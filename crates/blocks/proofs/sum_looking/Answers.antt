@@ -1,5 +1,5 @@
 use mathlib.Core.Path.{ap}
-use Prim.Native.Nat.{◌+◌, ◌-◌, ◌*◌}
+use Prim.Native.Nat.{◌+◌, ◌*◌}
 use Rattle.least.specs.Lists.{values}
 use Rattle.blocks.specs.Sheet.{head_size, entry_size, instant_slot}
 use Rattle.blocks.proofs.Terms.{instant_sum_small}

@@ -2,14 +2,10 @@ use Rattle.blocks.proofs.Terms.{term_none, term_some, term-small}
 use Prim.Native.Nat.{◌+◌, ◌*◌, ◌<◌}
 use Rattle.least.specs.Lists.{values}
 use native.Mathlib.Omega.{arith}
-use borrow.Author.Rules.{rules}
 use Rattle.blocks.proofs.term.Goals as goal
 
 pub returns-then-weight-eq0 : goal.returns-then-weight-eq0
 returns-then-weight-eq0 c = record { value = term_none c.args.e.now c.args.k _ (omega arith); upper_bound = omega arith }
-
--- ?? shared-slice-read-less : tie.Need-shared-slice-read-smaller
--- shared-slice-read-less c = search rules
 
 pub overflow_add-x : goal.overflow_add-x
 overflow_add-x c = omega (arith, c.requires.2 (c.args.k + 1))

@@ -1,4 +1,3 @@
-use Prim.Native.Nat.{◌-◌}
 use mathlib.Core.Path.{refl}
 use borrow.Author.Rules.{length_unmapped}
 use Rattle.flows.proofs.Loops.{later_more, later_fails, later_end}

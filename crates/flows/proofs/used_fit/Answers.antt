@@ -1,4 +1,3 @@
-use Prim.Native.Nat.{◌-◌}
 use mathlib.Core.Path.{refl}
 use borrow.Author.Rules.{length_unmapped, rules}
 use Rattle.flows.proofs.Loops.{used_more, used_fails, used_end}

@@ -1,4 +1,4 @@
-use Rattle.std.proofs.Common.{ℕ, ◌≡◌, ◌+◌, ◌<◌, length, set, arith, ◌∙◌, get_or-set_same, get_or-set_other, below_more}
+use Rattle.std.proofs.Common.{◌≡◌, ◌+◌, ◌<◌, length, set, arith, ◌∙◌, get_or-set_same, get_or-set_other, below_more}
 use Rattle.least.specs.Lists.{values}
 use Rattle.least.proofs.Stores.{inside-none, inside_more}
 use Rattle.least.proofs.copy.Goals as goal

@@ -1,4 +1,3 @@
-use Prim.Native.Nat.{◌-◌}
 use borrow.Author.Rules.{rules}
 use Rattle.nets.proofs.Places.{position_more, position_here, position_end}
 use Rattle.nets.proofs.position.Goals as goal

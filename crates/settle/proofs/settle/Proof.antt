@@ -2,6 +2,7 @@
 use mathlib.Core.Path.{◌≡◌, refl, ◌∙◌}
 use native.Mathlib.Omega.{arith}
 use lib.ListN.{length}
+use borrow.Author.Rules.{rules}
 use Rattle.settle.specs.Turns.{Room, left}
 use Rattle.settle.proofs.Room.{room_kept}
 use Rattle.settle.proofs.Rest.{Settling, settling_start, settling_past, settling_more, settling_end}
@@ -15,16 +16,16 @@ abbrev decreases-loop : tie.decreases-loop
 decreases-loop net pairs ways busies replies₀ marks₀ sheet₀ slots₀ steps₀ best₀ n a₀ replies marks sheet slots steps best a = left net replies marks
 
 all-set-requires : tie.Need-all-set-requires invariant-loop decreases-loop
-all-set-requires c κs = tt
+all-set-requires c κs = search rules
 
 all-set-requires-2 : tie.Need-all-set-requires-2 invariant-loop decreases-loop
-all-set-requires-2 c κs = tt
+all-set-requires-2 c κs = search rules
 
 count-requires : tie.Need-count-requires invariant-loop decreases-loop
-count-requires c κs = c.before.before.before.before.before.before.before.before.before.before.before.before.before.before.before.before.before.before.requires.0.whole
+count-requires c κs = search rules
 
 choose-requires : tie.Need-choose-requires invariant-loop decreases-loop
-choose-requires c κs = (c.before.before.before.before.before.before.before.before.before.before.before.before.before.before.before.before.before.before.before.before.requires.0.whole, omega (arith, c.before.before.before.before.before.before.before.before.before.before.before.before.before.before.before.before.before.before.before.before.requires.3.marks_long, c.before.before.before.before.all-set2.ensures.1))
+choose-requires c κs = search rules
 
 loop-holds : tie.Need-loop-init invariant-loop decreases-loop
 loop-holds c =
@@ -41,7 +42,7 @@ turn-requires c κs =
     (record { all = s.requires.0; one = omega (arith, c.before.before.before.before.before.before.before.before.before.before.count.ensures.0); other = omega (arith, c.before.before.before.before.before.before.before.before.before.before.count.ensures.0) }, s.requires.1, s.requires.2, l.invariant.1, l.invariant.0.fair)
 
 all-set-requires-3 : tie.Need-all-set-requires-3 invariant-loop decreases-loop
-all-set-requires-3 c κs = tt
+all-set-requires-3 c κs = search rules
 
 same_length : tie.Need-same-length invariant-loop decreases-loop
 same_length c = c.before.before.all-set3.ensures.1 ∙ c.before.before.before.before.before.before.before.before.before.before.before.before.before.before.before.before.replies2.given ∙ c.before.before.before.before.before.before.before.before.before.before.before.before.before.before.before.before.before.before.before.before.before.before.before.before.before.loop.invariant.2 ∙ c.before.before.before.before.before.before.before.before.before.before.before.before.before.before.before.before.before.before.before.before.before.before.before.before.before.before.before.before.before.before.before.before.before.before.replies.given

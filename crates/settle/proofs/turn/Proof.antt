@@ -4,14 +4,15 @@ use mathlib.Core.List.{List}
 use Prim.Native.Nat.{ℕ, ◌+◌, ◌*◌, ◌≤◌, ◌<◌}
 use native.Mathlib.Nat.{mul-le-mul}
 use native.Mathlib.Omega.{arith}
-use lib.ListN.{length}
+use lib.ListN.{length, length-set}
+use borrow.Author.Rules.{rules}
 use Rattle.least.specs.Lists.{values}
 use Rattle.nets.specs.Nets.{count_in, room_in}
 use Rattle.blocks.specs.Sheet.{Shaped}
-use Rattle.rounds.proofs.Looks.{reach_last, put_long}
+use Rattle.rounds.proofs.Windows.{reach_last}
 use Rattle.settle.specs.Turns.{Room}
 use Rattle.settle.proofs.Room.{sheet_fits, steps_fit, room_kept}
-use Rattle.settle.proofs.Work.{whole, Ran, turn_past, turn_put}
+use Rattle.settle.proofs.Work.{whole, turned_set, turned_behind, Ran, turn_past, turn_still, raised_fair, turn_raised}
 use Rattle.settle.proofs.turn.Statement.{statement}
 use Rattle.settle.proofs.turn.Tie as tie
 
@@ -60,10 +61,10 @@ write-requires c κs =
     (s.requires.0, s.requires.1, s.requires.3.replies_long, s.requires.4.low, s.requires.3.sheet_small, sheet_fits s.requires.3 s.args.a, s.requires.3.sheet_short)
 
 count-requires : tie.Need-count-requires
-count-requires c κs = c.before.before.before.before.before.before.before.before.before.before.before.before.before.before.before.requires.0.all.whole
+count-requires c κs = search rules
 
 hops-requires : tie.Need-hops-requires
-hops-requires c κs = (c.before.before.before.before.before.before.before.before.before.before.before.before.before.before.before.before.requires.0.all.whole, c.before.before.before.before.before.before.before.before.before.before.before.before.before.before.before.before.requires.0.one)
+hops-requires c κs = search rules
 
 room-requires : tie.Need-room-requires
 room-requires c κs =
@@ -124,7 +125,7 @@ add-look c =
     record { fits = omega (arith, first_low c.before.before.before.before.before.before.before.before.before.before.before.before.before.before.before.before.before.before.before.before, c.before.before.before.before.before.before.before.before.before.before.before.before.before.before.before.before.before.before.before.before.before.before.count.ensures.1) }
 
 add-look-2 : tie.Need-overflow-add-look-2
-add-look-2 c = omega (arith, c.before.before.before.before.before.before.before.before.before.before.before.before.before.before.before.before.before.before.before.before.before.before.count.ensures.1)
+add-look-2 c = search rules
 
 look-requires : tie.Need-look-requires
 look-requires c κs =
@@ -138,51 +139,76 @@ look-requires c κs =
     ((subst (Shaped w.new.1.1.1.1.0) (sym h.ensures.0) w.ensures.1.0, s.requires.2 x.a s.requires.0.one, c.before.before.before.before.before.reach.ensures.1, s.requires.3.slots_small, omega (arith, h.ensures.1.0, s.requires.3.slots_long), omega (arith, h.ensures.1.0, s.requires.3.best_long, k.ensures.1.long, g.ensures.1.long), omega (arith, h.ensures.1.1), λ p q. omega (arith, g.ensures.1.before p q, bounds-held c.before.before.before.before.before.before.before.before.before.before.before.before.before.before.before.before.before p q, s.requires.4.low (x.a * c.before.before.before.before.before.before.before.before.before.before.before.before.before.before.before.before.before.before.before.before.room.result + p)), omega (arith, places_in c.before.before.before.before.before.before.before.before.before.before.before.before.before.before.before.before.before.before.before.before, n.ensures.0, s.requires.3.marks_long), omega (arith, first_low c.before.before.before.before.before.before.before.before.before.before.before.before.before.before.before.before.before.before.before.before, n.ensures.1, h.ensures.1.1)), steps_fit s.requires.3 w.new.1.1.1.1.0 h.result n.result h.ensures.1.0 n.ensures.0 (λ p q. w.ensures.1.1.1 p (omega (arith, h.ensures.0))))
 
 same_length : tie.Need-same-length
-same_length c = refl
+same_length c = search rules
 
 same-length-2 : tie.Need-same-length-2
-same-length-2 c = refl
+same-length-2 c = search rules
 
 same-length-3 : tie.Need-same-length-3
 same-length-3 c =
     c.before.before.before.before.before.before.before.before.before.before.before.before.before.before.before.before.before.before.before.before.before.before.before.before.before.before.before.before.before.before.before.before.before.write.ensures.1.1.0
 
 same-length-4 : tie.Need-same-length-4
-same-length-4 c = c.before.before.before.before.before.before.before.look.ensures.1.1.0.1
+same-length-4 c = search rules
 
 same-length-5 : tie.Need-same-length-5
-same-length-5 c = c.before.before.before.before.before.before.before.look.ensures.1.1.1
+same-length-5 c = search rules
 
 same-length-6 : tie.Need-same-length-6
-same-length-6 c = c.before.before.before.before.before.before.before.look.ensures.1.0 ∙ c.before.before.before.before.before.before.before.before.before.before.before.before.before.before.before.before.before.before.before.before.copy2.ensures.1.long ∙ c.before.before.before.before.before.before.before.before.before.before.before.before.before.before.before.before.before.before.before.before.before.before.before.before.before.copy.ensures.1.long
+same-length-6 c = search rules
 
 returns : tie.Need-returns
 returns c =
     let s = c.before.before.before.before.before.before.before.before.before.before.before.before.before.before.before.before.before.before.before.before.before.before.before.before.before.before.before.before.before.before.before.before.before.before.before.before.before.before.before.before.before.before.before.before.before.before in
     (turn_past (ran c.before.before.before.before.before.before.before) c.if1.true, (kept-room c.before.before.before.before.before.before.before refl refl, s.requires.4))
 
-put-back-requires : tie.Need-put-back-requires
-put-back-requires c κs =
-    let s = c.before.before.before.before.before.before.before.before.before.before.before.before.before.before.before.before.before.before.before.before.before.before.before.before.before.before.before.before.before.before.before.before.before.before.before.before.before.before.before.before.before.before.before.before.before.before.before.before.before in
-    let h = c.before.before.before.before.before.before.before.before.before.before.before.before.before.before.before.before.before.before.before.before.before.before.before.before.before.before.before.before.before.before.before.before.hops in
-    (s.requires.0, first_low c.before.before.before.before.before.before.before.before.before.before.before.before.before.before.before.before.before.before.before.before.before.before.before.before.before.before.before.before.before.before.before, h.ensures.1.1, omega (arith, places_in c.before.before.before.before.before.before.before.before.before.before.before.before.before.before.before.before.before.before.before.before.before.before.before.before.before.before.before.before.before.before.before, s.requires.3.replies_long), omega (arith, places_in c.before.before.before.before.before.before.before.before.before.before.before.before.before.before.before.before.before.before.before.before.before.before.before.before.before.before.before.before.before.before.before, s.requires.3.marks_long), omega (arith, h.ensures.1.0, c.before.before.before.before.before.before.before.before.before.before.look.ensures.1.0, c.before.before.before.before.before.before.before.before.before.before.before.before.before.before.before.before.before.before.before.before.before.before.before.copy2.ensures.1.long, c.before.before.before.before.before.before.before.before.before.before.before.before.before.before.before.before.before.before.before.before.before.before.before.before.before.before.before.before.copy.ensures.1.long, s.requires.3.best_long), s.requires.4.low, c.before.before.before.before.before.before.before.before.before.before.look.ensures.0.low)
+raise-requires : tie.Need-raise-requires
+raise-requires c κs =
+    let s = c.before.before.before.before.before.before.before.before.before.before.before.before.before.before.before.before.before.before.before.before.before.before.before.before.before.before.before.before.before.before.before.before.before.before.before.before.before.before.before.before.before.before.before.before.before.before.before.before in
+    let h = c.before.before.before.before.before.before.before.before.before.before.before.before.before.before.before.before.before.before.before.before.before.before.before.before.before.before.before.before.before.before.before.hops in
+    let k = c.before.before.before.before.before.before.before.before.before.before.before.before.before.before.before.before.before.before.before.before.before.before.before.before.before.before.before.copy in
+    let g = c.before.before.before.before.before.before.before.before.before.before.before.before.before.before.before.before.before.before.before.before.before.before.copy2 in
+    let r = c.before.before.before.before.before.before.before.before.before.look in
+    (first_low c.before.before.before.before.before.before.before.before.before.before.before.before.before.before.before.before.before.before.before.before.before.before.before.before.before.before.before.before.before.before, h.ensures.1.1, omega (arith, places_in c.before.before.before.before.before.before.before.before.before.before.before.before.before.before.before.before.before.before.before.before.before.before.before.before.before.before.before.before.before.before, s.requires.3.replies_long), omega (arith, h.ensures.1.0, r.ensures.1.0, g.ensures.1.long, k.ensures.1.long, s.requires.3.best_long), s.requires.4.low, r.ensures.0.low)
+
+mul-turns-left : tie.Need-overflow-mul-turns-left
+mul-turns-left c =
+    let s = c.before.before.before.before.before.before.before.before.before.before.before.before.before.before.before.before.before.before.before.before.before.before.before.before.before.before.before.before.before.before.before.before.before.before.before.before.before.before.before.before.before.before.before.before.before.before.before.before.before.before.before in
+    omega (arith, s.requires.0.one)
+
+slice-read-turns-left : tie.Need-slice-read-turns-left
+slice-read-turns-left c =
+    let s = c.before.before.before.before.before.before.before.before.before.before.before.before.before.before.before.before.before.before.before.before.before.before.before.before.before.before.before.before.before.before.before.before.before.before.before.before.before.before.before.before.before.before.before.before.before.before.before.before.before.before.before.before in
+    omega (arith, s.requires.0.one, s.requires.3.marks_long)
+
+turns-left-requires : tie.Need-turns-left-requires
+turns-left-requires c κs = search rules
+
+mul-marks : tie.Need-overflow-mul-marks
+mul-marks c =
+    let s = c.before.before.before.before.before.before.before.before.before.before.before.before.before.before.before.before.before.before.before.before.before.before.before.before.before.before.before.before.before.before.before.before.before.before.before.before.before.before.before.before.before.before.before.before.before.before.before.before.before.before.before.before.before in
+    omega (arith, s.requires.0.one)
+
+slice-write-marks : tie.Need-slice-write-marks
+slice-write-marks c =
+    let s = c.before.before.before.before.before.before.before.before.before.before.before.before.before.before.before.before.before.before.before.before.before.before.before.before.before.before.before.before.before.before.before.before.before.before.before.before.before.before.before.before.before.before.before.before.before.before.before.before.before.before.before.before.before in
+    omega (arith, s.requires.0.one, s.requires.3.marks_long)
 
 same-length-7 : tie.Need-same-length-7
-same-length-7 c = c.before.before.before.before.put_back.ensures.raised.others.long
+same-length-7 c = search rules
 
 same-length-8 : tie.Need-same-length-8
-same-length-8 c =
-    put_long c.before.before.before.before.put_back.ensures
+same-length-8 c = search rules
 
 same-length-9 : tie.Need-same-length-9
 same-length-9 c =
     c.before.before.before.before.before.before.before.before.before.before.before.before.before.before.before.before.before.before.before.before.before.before.before.before.before.before.before.before.before.before.before.before.before.before.before.before.before.before.before.before.before.write.ensures.1.1.0
 
 same-length-10 : tie.Need-same-length-10
-same-length-10 c = c.before.before.before.before.before.before.before.before.before.before.before.before.before.before.before.look.ensures.1.1.0.1
+same-length-10 c = search rules
 
 same-length-11 : tie.Need-same-length-11
-same-length-11 c = c.before.before.before.before.before.before.before.before.before.before.before.before.before.before.before.look.ensures.1.1.1
+same-length-11 c = search rules
 
 same-length-12 : tie.Need-same-length-12
 same-length-12 c =
@@ -191,10 +217,63 @@ same-length-12 c =
 returns-2 : tie.Need-returns-2
 returns-2 c =
     let s = c.before.before.before.before.before.before.before.before.before.before.before.before.before.before.before.before.before.before.before.before.before.before.before.before.before.before.before.before.before.before.before.before.before.before.before.before.before.before.before.before.before.before.before.before.before.before.before.before.before.before.before.before.before.before in
-    let p = c.before.before.before.before.put_back.ensures in
-    let first = ap (λ k. s.args.a * k) c.before.before.before.before.before.before.before.before.before.before.before.before.before.before.before.before.before.before.before.before.before.before.before.before.before.before.before.before.before.before.before.before.before.before.before.before.room.ensures.0 in
-    let k = turn_put (ran c.before.before.before.before.before.before.before.before.before.before.before.before.before.before.before) c.before.before.before.before.before.before.before.before.if1.false first p s.requires.4 (omega (arith, s.requires.0.one, s.requires.3.marks_long)) in
-    (k.0, (kept-room c.before.before.before.before.before.before.before.before.before.before.before.before.before.before.before p.raised.others.long (put_long p), k.1))
+    let x = s.args in
+    let q = c.before.before.before.before.before.raise in
+    let t = c.before.turns-left in
+    let first = ap (λ k. x.a * k) c.before.before.before.before.before.before.before.before.before.before.before.before.before.before.before.before.before.before.before.before.before.before.before.before.before.before.before.before.before.before.before.before.before.before.before.before.room.ensures.0 in
+    let k = turn_still (ran c.before.before.before.before.before.before.before.before.before.before.before.before.before.before.before) c.before.before.before.before.before.before.before.before.if1.false first q.ensures t.ensures s.requires.4 (turned_set x.marks.now x.a t.result (omega (arith, s.requires.0.one, s.requires.3.marks_long))) c.if2.true in
+    (k.0, (kept-room c.before.before.before.before.before.before.before.before.before.before.before.before.before.before.before q.ensures.others.long (length-set x.marks.now x.a t.result), k.1))
+
+add-copy-2 : tie.Need-overflow-add-copy-2
+add-copy-2 c =
+    record { fits = omega (arith, first_low c.before.before.before.before.before.before.before.before.before.before.before.before.before.before.before.before.before.before.before.before.before.before.before.before.before.before.before.before.before.before.before.before.before.before.before.before.before.before, c.before.before.before.before.before.before.before.before.before.before.before.before.before.before.before.before.before.before.before.before.before.before.before.before.before.before.before.before.before.before.before.before.before.before.before.before.before.before.before.before.count.ensures.1) }
+
+copy-requires-3 : tie.Need-copy-requires-3
+copy-requires-3 c κs =
+    let s = c.before.before.before.before.before.before.before.before.before.before.before.before.before.before.before.before.before.before.before.before.before.before.before.before.before.before.before.before.before.before.before.before.before.before.before.before.before.before.before.before.before.before.before.before.before.before.before.before.before.before.before.before.before.before.before.before in
+    let h = c.before.before.before.before.before.before.before.before.before.before.before.before.before.before.before.before.before.before.before.before.before.before.before.before.before.before.before.before.before.before.before.before.before.before.before.before.before.before.before.hops in
+    let k = c.before.before.before.before.before.before.before.before.before.before.before.before.before.before.before.before.before.before.before.before.before.before.before.before.before.before.before.before.before.before.before.before.before.before.before.copy in
+    let g = c.before.before.before.before.before.before.before.before.before.before.before.before.before.before.before.before.before.before.before.before.before.before.before.before.before.before.before.before.before.before.copy2 in
+    let r = c.before.before.before.before.before.before.before.before.before.before.before.before.before.before.before.before.before.look in
+    (omega (arith, h.ensures.1.0, r.ensures.1.0, g.ensures.1.long, k.ensures.1.long, s.requires.3.best_long), omega (arith, places_in c.before.before.before.before.before.before.before.before.before.before.before.before.before.before.before.before.before.before.before.before.before.before.before.before.before.before.before.before.before.before.before.before.before.before.before.before.before.before, c.before.before.before.before.before.before.before.before.before.before.before.before.before.before.before.before.before.before.before.before.before.before.before.before.before.before.before.before.before.before.before.before.before.before.before.before.before.before.before.before.count.ensures.0, s.requires.3.marks_long, length-set s.args.marks.now s.args.a c.before.before.before.turns-left.result), omega (arith, h.ensures.1.1), omega (arith, first_low c.before.before.before.before.before.before.before.before.before.before.before.before.before.before.before.before.before.before.before.before.before.before.before.before.before.before.before.before.before.before.before.before.before.before.before.before.before.before, c.before.before.before.before.before.before.before.before.before.before.before.before.before.before.before.before.before.before.before.before.before.before.before.before.before.before.before.before.before.before.before.before.before.before.before.before.before.before.before.before.count.ensures.1, h.ensures.1.1))
+
+mark-requires : tie.Need-mark-requires
+mark-requires c κs =
+    let s = c.before.before.before.before.before.before.before.before.before.before.before.before.before.before.before.before.before.before.before.before.before.before.before.before.before.before.before.before.before.before.before.before.before.before.before.before.before.before.before.before.before.before.before.before.before.before.before.before.before.before.before.before.before.before.before.before.before.before.before.before in
+    (s.requires.0, omega (arith, s.requires.3.marks_long, c.before.before.before.copy3.ensures.1.long, length-set s.args.marks.now s.args.a c.before.before.before.before.before.before.before.turns-left.result))
+
+same-length-13 : tie.Need-same-length-13
+same-length-13 c = search rules
+
+same-length-14 : tie.Need-same-length-14
+same-length-14 c =
+    c.before.before.mark.ensures.others.long ∙ c.before.before.before.before.before.before.copy3.ensures.1.long ∙ length-set c.before.before.before.before.before.before.before.before.before.before.before.before.before.before.before.before.before.before.before.before.before.before.before.before.before.before.before.before.before.before.before.before.before.before.before.before.before.before.before.before.before.before.before.before.before.before.before.before.before.before.before.before.before.before.before.before.before.before.before.before.before.before.before.args.marks.now c.before.before.before.before.before.before.before.before.before.before.before.before.before.before.before.before.before.before.before.before.before.before.before.before.before.before.before.before.before.before.before.before.before.before.before.before.before.before.before.before.before.before.before.before.before.before.before.before.before.before.before.before.before.before.before.before.before.before.before.before.before.before.before.args.a c.before.before.before.before.before.before.before.before.before.before.turns-left.result
+
+same-length-15 : tie.Need-same-length-15
+same-length-15 c =
+    c.before.before.before.before.before.before.before.before.before.before.before.before.before.before.before.before.before.before.before.before.before.before.before.before.before.before.before.before.before.before.before.before.before.before.before.before.before.before.before.before.before.before.before.before.before.before.before.before.before.before.write.ensures.1.1.0
+
+same-length-16 : tie.Need-same-length-16
+same-length-16 c = search rules
+
+same-length-17 : tie.Need-same-length-17
+same-length-17 c = search rules
+
+same-length-18 : tie.Need-same-length-18
+same-length-18 c =
+    c.before.before.before.before.before.before.before.before.before.before.before.before.before.before.before.before.before.before.before.before.before.before.before.before.look.ensures.1.0 ∙ c.before.before.before.before.before.before.before.before.before.before.before.before.before.before.before.before.before.before.before.before.before.before.before.before.before.before.before.before.before.before.before.before.before.before.before.before.before.copy2.ensures.1.long ∙ c.before.before.before.before.before.before.before.before.before.before.before.before.before.before.before.before.before.before.before.before.before.before.before.before.before.before.before.before.before.before.before.before.before.before.before.before.before.before.before.before.before.before.copy.ensures.1.long
+
+returns-3 : tie.Need-returns-3
+returns-3 c =
+    let s = c.before.before.before.before.before.before.before.before.before.before.before.before.before.before.before.before.before.before.before.before.before.before.before.before.before.before.before.before.before.before.before.before.before.before.before.before.before.before.before.before.before.before.before.before.before.before.before.before.before.before.before.before.before.before.before.before.before.before.before.before.before.before.before in
+    let x = s.args in
+    let q = c.before.before.before.before.before.before.before.before.before.before.before.before.before.before.raise in
+    let t = c.before.before.before.before.before.before.before.before.before.before.turns-left in
+    let k = c.before.before.mark in
+    let y = c.before.before.before.before.before.before.copy3 in
+    let first = ap (λ k. x.a * k) c.before.before.before.before.before.before.before.before.before.before.before.before.before.before.before.before.before.before.before.before.before.before.before.before.before.before.before.before.before.before.before.before.before.before.before.before.before.before.before.before.before.before.before.before.before.room.ensures.0 in
+    let turned = turned_behind (omega (arith, c.before.before.before.before.before.before.before.before.before.before.before.before.before.before.before.before.before.before.before.before.before.before.before.before.before.before.before.before.before.before.before.before.before.before.before.before.before.before.before.before.before.before.before.before.before.before.before.count.ensures.0)) y.ensures.1 s.requires.0.one (turned_set x.marks.now x.a t.result (omega (arith, s.requires.0.one, s.requires.3.marks_long))) in
+    (turn_raised (ran c.before.before.before.before.before.before.before.before.before.before.before.before.before.before.before.before.before.before.before.before.before.before.before.before) c.before.before.before.before.before.before.before.before.before.before.before.before.before.before.before.before.before.if1.false first q.ensures t.ensures s.requires.4 turned k.ensures c.before.before.before.before.before.before.before.before.before.if2.false, (kept-room c.before.before.before.before.before.before.before.before.before.before.before.before.before.before.before.before.before.before.before.before.before.before.before.before q.ensures.others.long (k.ensures.others.long ∙ y.ensures.1.long ∙ length-set x.marks.now x.a t.result), raised_fair (ran c.before.before.before.before.before.before.before.before.before.before.before.before.before.before.before.before.before.before.before.before.before.before.before.before) c.before.before.before.before.before.before.before.before.before.before.before.before.before.before.before.before.before.if1.false first q.ensures t.ensures s.requires.4 turned k.ensures))
 
 pub turn_spec : {M : Type 1} → statement M
 turn_spec =
@@ -224,11 +303,26 @@ turn_spec =
     same-length-5
     same-length-6
     returns
-    put-back-requires
+    raise-requires
+    mul-turns-left
+    slice-read-turns-left
+    turns-left-requires
+    mul-marks
+    slice-write-marks
     same-length-7
     same-length-8
     same-length-9
     same-length-10
     same-length-11
     same-length-12
-    returns-2)
+    returns-2
+    add-copy-2
+    copy-requires-3
+    mark-requires
+    same-length-13
+    same-length-14
+    same-length-15
+    same-length-16
+    same-length-17
+    same-length-18
+    returns-3)

@@ -1,0 +1,14 @@
+use Prim.Native.Nat.{◌-◌}
+use mathlib.Core.Path.{◌≡◌}
+use mathlib.Core.List.{[]}
+use lib.ListN.{length}
+use Rattle.records.specs.Kinds.{count_record}
+use Rattle.lines.specs.Reports.{lines_in, report_of}
+use Rattle.lines.specs.Reading.{last_number, read_lines}
+use Rattle.lines.proofs.read_lines.Given as goal
+
+abbrev pub invariant-loop-report : goal.invariant-loop-report
+invariant-loop-report l = (l.report ≡ report_of (lines_in l.report)) × (l.last ≡ last_number (lines_in l.report)) × (read_lines (l.count - length (lines_in l.report)) (lines_in l.report) l.bytes l.at ≡ read_lines l.count [] l.bytes count_record)
+
+abbrev pub decreases-loop-report : goal.decreases-loop-report
+decreases-loop-report l = l.count - l.report.count
