@@ -1,7 +1,8 @@
 // What the programs print of plans, tables, reports, bytes and refusals, and how they read.
 #![tactic(auto)]
 
-ghost use Rattle.std.specs.Prelude.{◌<◌, ◌≤◌, length, IfOk};
+ghost use Rattle.std.specs.Prelude.{◌<◌, ◌≤◌, length, take, IfOk, OnOk};
+ghost use Rattle.std.specs.Io.KnownBytes.{Appends, Consumes, IsAtEnd};
 
 use flows::{Answer, Asked, Figures, Outcome, Refusal, Table, Written};
 use lines::Report;
@@ -16,7 +17,9 @@ const UNTOUCHED: u8 = 0xa5;
 
 // Reads until the memory is full or the input ends, and answers how many bytes it put at its start.
 pub fn read_full<R: Read>(input: &mut R, memory: &mut [u8]) -> io::Result<usize>
-    ensures { IfOk result (λ n. n ≤ length memory.new) }
+    ensures bound { IfOk result (λ n. n ≤ length memory.new) }
+    ensures read { IfOk result (λ n. Consumes (R.remaining input.old) (R.remaining input.new) (take n memory.new)) }
+    ensures end { IfOk result (λ n. n < length memory.new → IsAtEnd (R.remaining input.new)) }
 {
     let mut done: usize = 0;
     while done < memory.len() {
@@ -29,7 +32,9 @@ pub fn read_full<R: Read>(input: &mut R, memory: &mut [u8]) -> io::Result<usize>
     Ok(done)
 }
 
-pub fn put<W: Write>(out: &mut W, text: &[u8]) -> io::Result<()> {
+pub fn put<W: Write>(out: &mut W, text: &[u8]) -> io::Result<()>
+    ensures { OnOk result (Appends (W.contents out.old) (W.contents out.new) text.now) }
+{
     out.write_all(text)
 }
 
