@@ -1,5 +1,6 @@
 // What stands against a set of any size: which of refusals 7 to 9, or nothing.
 #![tactic(auto)]
+
 ghost use Rattle.std.specs.Prelude.{◌≡◌, ◌*◌, ◌≤◌, length};
 ghost use Rattle.rules.specs.Valid.{Valid};
 ghost use Rattle.nets.specs.Nets.{Whole, count_in, room_in, net_in};

@@ -22,7 +22,7 @@ use Rattle.rules.specs.Valid.{Valid}
 use Rattle.rules.specs.Judge.{busy_length}
 use Rattle.rules.specs.Ready.{Ready}
 use Rattle.nets.specs.Nets.{count_in, room_in, length_in, net_in, flow_at}
-use Rattle.nets.proofs.Reading.{path_length, flows_length, flow_at}
+use Rattle.nets.proofs.Reading.{path_length, flows_length, flow_at_lem}
 use Rattle.nets.proofs.Sets.{flow_here_lem}
 use Rattle.starts.specs.Runs.{most_time, StartsOf, reply_at}
 use Rattle.sheets.specs.Sheets.{SheetIs}
@@ -36,7 +36,7 @@ use Rattle.ascent.proofs.Reading.{unread_is}
 use Rattle.ascent.proofs.Steps.{good_past, good_still, good_raised}
 
 pub path_long : (net : List ℕ) (b : ℕ) → b < count_in net → length (flow_at (net_in net) b).path ≡ length_in net b
-path_long net b h = ap (λ j. length j.path) (flow_at net b h) ∙ path_length net b
+path_long net b h = ap (λ j. length j.path) (flow_at_lem net b h) ∙ path_length net b
 
 -- what is left falls by a mark; and by a response bound, however many marks there are then of at most n
 fewer_marks : (x n s s' : ℕ) → s' < s → x * (n + 1) + s' < x * (n + 1) + s
@@ -148,7 +148,7 @@ module _ {net busies replies marks : List ℕ} {a : ℕ} {sheet : List ℕ} {m f
 
   module _ (val : Valid N) (ready : (i : Flow) → Here N i → Ready N i) (busy : BusiesAre net busies) where
     its_busy : values busies a ≡ busy_length N (flow_at N a)
-    its_busy = busy a ran.on ∙ ap (busy_length N) (sym (flow_at net a ran.on))
+    its_busy = busy a ran.on ∙ ap (busy_length N) (sym (flow_at_lem net a ran.on))
 
     its-look : LookIs sheet (length (flow_at N a).path) far (values busies a) best₀ past best
     its-look = subst (λ c. LookIs sheet c far (values busies a) best₀ past best) (ran.long ∙ sym (path_long net a ran.on)) ran.look
