@@ -1,5 +1,6 @@
 // The judgement of a set: refusals 7 to 10, or the figures of each flow.
 #![tactic(auto)]
+
 ghost use Rattle.std.specs.Prelude.{◌≡◌, ◌+◌, ◌-◌, ◌*◌, ◌≤◌, ◌<◌, ltb, length};
 ghost use Rattle.least.specs.Fold.{sum_of};
 ghost use Rattle.rules.specs.Formula.{least};

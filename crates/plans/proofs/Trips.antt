@@ -6,7 +6,6 @@ use mathlib.Core.Bool.{Bool, true, false, cond, false≢true}
 use mathlib.Core.List.{List}
 use Rattle.rules.specs.Net as net
 use Rattle.rules.specs.Judge.{judged}
-use Rattle.flows.specs.declared.Figures.{Figures}
 use Rattle.flows.specs.declared.Table.{Table}
 use Rattle.flows.specs.declared.Answer.{Answer}
 use Rattle.flows.specs.declared.Cause.TheVariants.{Accepted}

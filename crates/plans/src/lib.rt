@@ -1,5 +1,6 @@
 // Sets judged, and whole plans: read, then judged.
 #![tactic(auto)]
+
 ghost use Rattle.std.specs.Prelude.{◌≡◌, length};
 ghost use Rattle.flows.specs.Lists.{held};
 ghost use Rattle.plan.specs.Writing.{written_into, buffer_after};

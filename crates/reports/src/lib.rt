@@ -1,5 +1,6 @@
 // The report of a table.
 #![tactic(auto)]
+
 ghost use Rattle.std.specs.Prelude.{◌≡◌, length};
 ghost use Rattle.lines.specs.Writing.{report_written, report_after};
 ghost use Rattle.lines.specs.Demands.{InOrder};

@@ -13,7 +13,6 @@ use Rattle.rules.specs.Valid.{RisingNumbers}
 use Rattle.rules.specs.Meaning.{Here}
 use Rattle.rules.specs.Judge.{judged}
 use Rattle.flows.specs.declared.Flow.{Flow}
-use Rattle.flows.specs.declared.Figures.{Figures}
 use Rattle.flows.specs.declared.Table.{Table}
 use Rattle.flows.specs.declared.Answer.{Answer}
 use Rattle.flows.specs.declared.Cause.TheVariants.{Accepted}

@@ -1,5 +1,6 @@
 // A table of flows and their figures: made, enlarged, made smaller, asked.
 #![tactic(auto)]
+
 ghost use Rattle.std.specs.Prelude.{◌≡◌};
 ghost use Rattle.flows.specs.WellFormed.{Typed};
 ghost use Rattle.table.specs.Calls.{empty_table, answered, fresh_answer, holding, decided, admitted, withdrawn, asked_for};

@@ -1,3 +1,4 @@
 -- The laws of `tallies`.
+pub mod Calm
 pub mod Lays
 pub mod Sums

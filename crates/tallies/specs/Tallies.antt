@@ -1,7 +1,6 @@
 -- A tally: at each tick of a window how much more a sum is than at the tick before.
-use Rattle.std.specs.Prelude.{◌≡◌, List, ℕ, ◌+◌, ◌*◌, ◌<◌, length}
+use Rattle.std.specs.Prelude.{◌≡◌, List, ℕ, ◌+◌, ◌<◌, length}
 use Rattle.least.specs.Lists.{values}
-use Rattle.blocks.specs.Sheet.{sheet_sum}
 
 -- no number among the first n is so great that a weight more would be cut
 abbrev pub Scant : ℕ → List ℕ → Type 0

@@ -2,6 +2,7 @@
 // for starting times, is not above the node's own ceiling, no starting time is above its ceiling, and no bound rises. With ceilings every count looks at the
 // instant, so the sums in a window of ticks are a running sum over a tally of the steps in it. Sheet, tally and bounds are lent, so nothing here has a size.
 #![tactic(auto)]
+
 ghost use Rattle.std.specs.Prelude.{◌≡◌, ℕ, ◌+◌, ◌*◌, ◌≤◌, ◌<◌, length};
 ghost use Rattle.least.specs.Count.{count};
 ghost use Rattle.least.specs.Lists.{values};
