@@ -2,27 +2,12 @@
    KEZHUVANAM_STACK bytes. Every expected number is written out here by hand. tests/host/run --stack: how much stack a call takes on one byte, on
    these plans and on one with the longest paths and long busy lengths. */
 #define _POSIX_C_SOURCE 200809L
+#include <pthread.h>
 #include <stddef.h>
 #include <stdint.h>
+#include <stdio.h>
 
 #include "kezhuvanam.h"
-
-int printf(const char *format, ...);
-
-#if __STDC_HOSTED__
-#include <pthread.h>
-#else
-/* Where the kit's C library is linked, there are no headers of a C library. These are glibc's types on x86-64. */
-typedef unsigned long pthread_t;
-typedef union {
-    char bytes[56];
-    long aligned;
-} pthread_attr_t;
-int pthread_attr_init(pthread_attr_t *attributes);
-int pthread_attr_setstack(pthread_attr_t *attributes, void *stack, size_t size);
-int pthread_create(pthread_t *thread, const pthread_attr_t *attributes, void *(*run)(void *), void *argument);
-int pthread_join(pthread_t thread, void **result);
-#endif
 
 #define TWO(x) (x) / 256, (x) % 256
 #define LINKS(least, most) 0x01, TWO(least), TWO(most)

@@ -1,8 +1,10 @@
 // Judges the plans of a corpus on standard input: for each, its length in two bytes, then its bytes.
 #![tactic(auto)]
+
 ghost use Rattle.std.specs.Prelude.{◌<◌};
 
-use libc::STDIN_FILENO;
+use std::io;
+use std::io::{Read, Write};
 
 // The high byte first.
 fn frame_length(high: u8, low: u8) -> usize
@@ -12,30 +14,38 @@ fn frame_length(high: u8, low: u8) -> usize
 }
 
 // Judges a plan as long as this memory; false if the input ends before it does.
-fn judge_frame(frame: &mut [u8]) -> bool {
-    if io::read_full(STDIN_FILENO, frame) < frame.len() {
-        return false;
+fn judge_frame<R: Read, W: Write>(
+    input: &mut R,
+    out: &mut W,
+    frame: &mut [u8],
+) -> io::Result<bool> {
+    if show::read_full(input, frame)? < frame.len() {
+        return Ok(false);
     }
-    show::print_plan(frame);
-    show::put(b".\n");
-    true
+    show::print_plan(out, frame)?;
+    show::put(out, b".\n")?;
+    Ok(true)
 }
 
 // Judges the next plan, and answers whether there was one.
-fn judge_next() -> bool {
+fn judge_next<R: Read, W: Write>(input: &mut R, out: &mut W) -> io::Result<bool> {
     let mut head = [0u8; 2];
-    if io::read_full(STDIN_FILENO, &mut head) < 2 {
-        return false;
+    if show::read_full(input, &mut head)? < 2 {
+        return Ok(false);
     }
     let n = frame_length(head[0], head[1]);
-    let mut buffer = io::large_buffer();
-    judge_frame(&mut buffer[0..n])
+    let mut buffer = [0u8; 65536];
+    judge_frame(input, out, &mut buffer[0..n])
 }
 
-// Nothing says that an input ends, so the turns are counted down from a number that no run uses up.
-fn main() {
-    let mut turns = u64::MAX;
-    while turns > 0 && judge_next() {
-        turns -= 1;
+// Nothing says that an input ends, so the turns are counted up to a number that no run reaches.
+fn main(rt: HostRuntime) -> io::Result<()> {
+    let mut input = rt.stdin();
+    let mut out = rt.stdout();
+    for _ in 0..u64::MAX {
+        if !judge_next(&mut input, &mut out)? {
+            break;
+        }
     }
+    Ok(())
 }

@@ -1,87 +1,105 @@
-// What the programs print of plans, tables, reports, bytes and refusals.
+// What the programs print of plans, tables, reports, bytes and refusals, and how they read.
 #![tactic(auto)]
-ghost use Rattle.std.specs.Prelude.{◌<◌};
+
+ghost use Rattle.std.specs.Prelude.{◌<◌, ◌≤◌, length, take, IfOk, OnOk};
+ghost use Rattle.std.specs.Io.KnownBytes.{Appends, Consumes, IsAtEnd};
 
 use flows::{Answer, Asked, Figures, Outcome, Refusal, Table, Written};
-use libc::STDOUT_FILENO;
 use lines::Report;
 use plan::{FlowSet, Reading};
+use std::io;
+use std::io::{Read, Write};
 
 // A lent buffer has at most LENT bytes.
 pub const LENT: usize = 900;
 
 const UNTOUCHED: u8 = 0xa5;
 
-pub fn put(text: &[u8]) {
-    io::write_all(STDOUT_FILENO, text);
+// Reads until the memory is full or the input ends, and answers how many bytes it put at its start.
+pub fn read_full<R: Read>(input: &mut R, memory: &mut [u8]) -> io::Result<usize>
+    ensures bound { IfOk result (λ n. n ≤ length memory.new) }
+    ensures read { IfOk result (λ n. Consumes (R.remaining input.old) (R.remaining input.new) (take n memory.new)) }
+    ensures end { IfOk result (λ n. n < length memory.new → IsAtEnd (R.remaining input.new)) }
+{
+    let mut done: usize = 0;
+    while done < memory.len() {
+        let n = input.read(&mut memory[done..])?;
+        if n == 0 {
+            break;
+        }
+        done += n;
+    }
+    Ok(done)
 }
 
-fn put_number(n: u64) {
-    io::print_decimal(STDOUT_FILENO, n);
+pub fn put<W: Write>(out: &mut W, text: &[u8]) -> io::Result<()>
+    ensures { OnOk result (Appends (W.contents out.old) (W.contents out.new) text.now) }
+{
+    out.write_all(text)
+}
+
+fn put_number<W: Write>(out: &mut W, n: u64) -> io::Result<()> {
+    write!(out, "{n}")
 }
 
 // A flow's number and its figures.
-fn print_flow(number: u8, g: Figures) {
-    put_number(number as u64);
-    put(b" ");
-    put_number(g.bound as u64);
-    put(b" ");
-    put_number(g.jitter as u64);
-    put(b" ");
-    put_number(g.busy as u64);
-    put(b"\n");
+fn print_flow<W: Write>(out: &mut W, number: u8, g: Figures) -> io::Result<()> {
+    put_number(out, number as u64)?;
+    put(out, b" ")?;
+    put_number(out, g.bound as u64)?;
+    put(out, b" ")?;
+    put_number(out, g.jitter as u64)?;
+    put(out, b" ")?;
+    put_number(out, g.busy as u64)?;
+    put(out, b"\n")
 }
 
 // The header, and the lines of a report. RULES, programs.
-fn print_lines(report: Report) {
-    put(b"flow bound jitter busy\n");
-    let n = lines::size(report);
-    let mut k: usize = 0;
-    while k < n {
-        let line = report.lines[k];
-        let figures = line.figures;
-        print_flow(line.number, figures);
-        k += 1;
+fn print_lines<W: Write>(out: &mut W, report: Report) -> io::Result<()> {
+    put(out, b"flow bound jitter busy\n")?;
+    for line in &report.lines[..lines::size(report)] {
+        print_flow(out, line.number, line.figures)?;
     }
+    Ok(())
 }
 
 // The lines of its report.
-pub fn print_table(t: Table) {
+pub fn print_table<W: Write>(out: &mut W, t: Table) -> io::Result<()> {
     let report = reports::report_of(t);
-    print_lines(report);
+    print_lines(out, report)
 }
 
-pub fn print_refusal(r: Refusal) {
-    put(b"refused ");
-    put_number(r.number as u64);
-    put(b" flow ");
-    put_number(r.flow as u64);
-    put(b" at ");
-    put_number(r.place as u64);
-    put(b"\n");
+pub fn print_refusal<W: Write>(out: &mut W, r: Refusal) -> io::Result<()> {
+    put(out, b"refused ")?;
+    put_number(out, r.number as u64)?;
+    put(out, b" flow ")?;
+    put_number(out, r.flow as u64)?;
+    put(out, b" at ")?;
+    put_number(out, r.place as u64)?;
+    put(out, b"\n")
 }
 
 // What a call on a table did, or its refusal.
-pub fn print_done(answer: Answer, done: &[u8]) {
+pub fn print_done<W: Write>(out: &mut W, answer: Answer, done: &[u8]) -> io::Result<()> {
     let cause = answer.cause;
     if flows::accepted(cause) {
-        put(done);
+        put(out, done)
     } else {
-        print_refusal(flows::refuse(cause, answer.place));
+        print_refusal(out, flows::refuse(cause, answer.place))
     }
 }
 
 // The figures of the flow that was asked for, or the refusal.
-pub fn print_asked(number: u8, asked: Asked) {
+pub fn print_asked<W: Write>(out: &mut W, number: u8, asked: Asked) -> io::Result<()> {
     match asked {
-        Asked::Given(g) => print_flow(number, g),
-        Asked::Refused(r) => print_refusal(r),
+        Asked::Given(g) => print_flow(out, number, g),
+        Asked::Refused(r) => print_refusal(out, r),
     }
 }
 
-pub fn print_length(n: usize) {
-    put_number(n as u64);
-    put(b"\n");
+pub fn print_length<W: Write>(out: &mut W, n: usize) -> io::Result<()> {
+    put_number(out, n as u64)?;
+    put(out, b"\n")
 }
 
 // A figure from 0 to f.
@@ -94,100 +112,97 @@ fn digit(n: u8) -> u8
     b'a' + (n - 10)
 }
 
-fn print_byte(byte: u8) {
+fn print_byte<W: Write>(out: &mut W, byte: u8) -> io::Result<()> {
     let pair = [digit(byte / 16), digit(byte % 16)];
-    put(&pair);
+    put(out, &pair)
 }
 
 // The first n bytes, or all that there are, in hexadecimal on a line.
-pub fn print_bytes(bytes: &[u8], n: usize) {
-    let mut k: usize = 0;
-    while k < n && k < bytes.len() {
-        print_byte(bytes[k]);
-        k += 1;
+pub fn print_bytes<W: Write>(out: &mut W, bytes: &[u8], n: usize) -> io::Result<()> {
+    for byte in bytes.iter().take(n) {
+        print_byte(out, *byte)?;
     }
-    put(b"\n");
+    put(out, b"\n")
 }
 
 // The bytes that were written to the start of these, or the refusal.
-fn print_written(written: Written, bytes: &[u8]) {
+fn print_written<W: Write>(out: &mut W, written: Written, bytes: &[u8]) -> io::Result<()> {
     match written {
-        Written::Length(n) => print_bytes(bytes, n),
-        Written::Refused(r) => print_refusal(r),
+        Written::Length(n) => print_bytes(out, bytes, n),
+        Written::Refused(r) => print_refusal(out, r),
     }
 }
 
 // The plan of a set, in hexadecimal; 550 bytes hold any.
-pub fn print_set(set: FlowSet) {
+pub fn print_set<W: Write>(out: &mut W, set: FlowSet) -> io::Result<()> {
     let mut buffer = [0u8; 550];
     let written = plan::write(&mut buffer, set);
-    print_written(written, &buffer);
+    print_written(out, written, &buffer)
 }
 
 // The report of a table, in hexadecimal; 131 bytes hold any.
-pub fn print_table_report(t: Table) {
+pub fn print_table_report<W: Write>(out: &mut W, t: Table) -> io::Result<()> {
     let mut buffer = [0u8; 131];
     let written = reports::write_report(&mut buffer, t);
-    print_written(written, &buffer);
+    print_written(out, written, &buffer)
 }
 
 // What writing a table's plan into these bytes answers, and then the bytes.
-fn print_into(bytes: &mut [u8], t: Table) {
+fn print_into<W: Write>(out: &mut W, bytes: &mut [u8], t: Table) -> io::Result<()> {
     let written = plans::write_plan(bytes, t);
     match written {
-        Written::Length(n) => print_length(n),
-        Written::Refused(r) => print_refusal(r),
+        Written::Length(n) => print_length(out, n)?,
+        Written::Refused(r) => print_refusal(out, r)?,
     }
-    print_bytes(bytes, bytes.len());
+    print_bytes(out, bytes, bytes.len())
 }
 
 // The same for a buffer of n bytes, or of LENT if n is more, each UNTOUCHED.
-pub fn print_lent(t: Table, n: usize) {
+pub fn print_lent<W: Write>(out: &mut W, t: Table, n: usize) -> io::Result<()> {
     let mut buffer = [UNTOUCHED; LENT];
     if LENT < n {
-        print_into(&mut buffer, t);
-        return;
+        return print_into(out, &mut buffer, t);
     }
-    print_into(&mut buffer[0..n], t);
+    print_into(out, &mut buffer[0..n], t)
 }
 
-fn print_outcome(outcome: Outcome) {
-    print_refusal(flows::refuse(flows::cause_in(outcome), flows::place_in(outcome)));
+fn print_outcome<W: Write>(out: &mut W, outcome: Outcome) -> io::Result<()> {
+    print_refusal(
+        out,
+        flows::refuse(flows::cause_in(outcome), flows::place_in(outcome)),
+    )
 }
 
 // How many flows were read, or the refusal.
-pub fn print_reading(reading: Reading) {
+pub fn print_reading<W: Write>(out: &mut W, reading: Reading) -> io::Result<()> {
     let outcome = reading.outcome;
     let Outcome::Read = outcome else {
-        print_outcome(outcome);
-        return;
+        return print_outcome(out, outcome);
     };
     let set = reading.set;
     let row = set.row;
-    put(b"read ");
-    print_length(row::size(row));
+    put(out, b"read ")?;
+    print_length(out, row::size(row))
 }
 
 // The lines of a report that is read, or the refusal.
-pub fn print_report(bytes: &[u8]) {
+pub fn print_report<W: Write>(out: &mut W, bytes: &[u8]) -> io::Result<()> {
     let reading = lines::read(bytes);
     let outcome = reading.outcome;
     let Outcome::Read = outcome else {
-        print_outcome(outcome);
-        return;
+        return print_outcome(out, outcome);
     };
     let report = reading.report;
-    print_lines(report);
+    print_lines(out, report)
 }
 
 // The table of an accepted plan, or the refusal.
-pub fn print_plan(plan: &[u8]) {
+pub fn print_plan<W: Write>(out: &mut W, plan: &[u8]) -> io::Result<()> {
     let answer = plans::read_plan(plan);
     let cause = answer.cause;
     if !flows::accepted(cause) {
-        print_refusal(flows::refuse(cause, answer.place));
-        return;
+        return print_refusal(out, flows::refuse(cause, answer.place));
     }
     let table = answer.table;
-    print_table(table);
+    print_table(out, table)
 }
