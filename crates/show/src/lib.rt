@@ -1,8 +1,10 @@
 // What the programs print of plans, tables, reports, bytes and refusals, and how they read.
 #![tactic(auto)]
 
-ghost use Rattle.std.specs.Prelude.{◌<◌, ◌≤◌, length, take, IfOk, OnOk};
+ghost use Rattle.std.specs.Prelude.{◌≡◌, ◌<◌, ◌≤◌, length, take, IfOk, OnOk};
+ghost use Rattle.std.specs.Fmt.{decimal};
 ghost use Rattle.std.specs.Io.KnownBytes.{Appends, Consumes, IsAtEnd};
+ghost use Rattle.show.specs.Texts.{flow_text, report_text, table_text, refusal_text, done_text, asked_text, length_text, digit_of, byte_text, hex_text, written_text, set_text, table_report_text, into_text, lent_text, outcome_text, read_text, shown_text, plan_text};
 
 use flows::{Answer, Asked, Figures, Outcome, Refusal, Table, Written};
 use lines::Report;
@@ -38,24 +40,23 @@ pub fn put<W: Write>(out: &mut W, text: &[u8]) -> io::Result<()>
     out.write_all(text)
 }
 
-fn put_number<W: Write>(out: &mut W, n: u64) -> io::Result<()> {
+fn put_number<W: Write>(out: &mut W, n: u64) -> io::Result<()>
+    ensures { OnOk result (Appends (W.contents out.old) (W.contents out.new) (decimal n)) }
+{
     write!(out, "{n}")
 }
 
 // A flow's number and its figures.
-fn print_flow<W: Write>(out: &mut W, number: u8, g: Figures) -> io::Result<()> {
-    put_number(out, number as u64)?;
-    put(out, b" ")?;
-    put_number(out, g.bound as u64)?;
-    put(out, b" ")?;
-    put_number(out, g.jitter as u64)?;
-    put(out, b" ")?;
-    put_number(out, g.busy as u64)?;
-    put(out, b"\n")
+fn print_flow<W: Write>(out: &mut W, number: u8, g: Figures) -> io::Result<()>
+    ensures { OnOk result (Appends (W.contents out.old) (W.contents out.new) (flow_text number g)) }
+{
+    writeln!(out, "{number} {} {} {}", g.bound, g.jitter, g.busy)
 }
 
 // The header, and the lines of a report. RULES, programs.
-fn print_lines<W: Write>(out: &mut W, report: Report) -> io::Result<()> {
+fn print_lines<W: Write>(out: &mut W, report: Report) -> io::Result<()>
+    ensures { OnOk result (Appends (W.contents out.old) (W.contents out.new) (report_text report)) }
+{
     put(out, b"flow bound jitter busy\n")?;
     for line in &report.lines[..lines::size(report)] {
         print_flow(out, line.number, line.figures)?;
@@ -64,23 +65,23 @@ fn print_lines<W: Write>(out: &mut W, report: Report) -> io::Result<()> {
 }
 
 // The lines of its report.
-pub fn print_table<W: Write>(out: &mut W, t: Table) -> io::Result<()> {
+pub fn print_table<W: Write>(out: &mut W, t: Table) -> io::Result<()>
+    ensures { OnOk result (Appends (W.contents out.old) (W.contents out.new) (table_text t)) }
+{
     let report = reports::report_of(t);
     print_lines(out, report)
 }
 
-pub fn print_refusal<W: Write>(out: &mut W, r: Refusal) -> io::Result<()> {
-    put(out, b"refused ")?;
-    put_number(out, r.number as u64)?;
-    put(out, b" flow ")?;
-    put_number(out, r.flow as u64)?;
-    put(out, b" at ")?;
-    put_number(out, r.place as u64)?;
-    put(out, b"\n")
+pub fn print_refusal<W: Write>(out: &mut W, r: Refusal) -> io::Result<()>
+    ensures { OnOk result (Appends (W.contents out.old) (W.contents out.new) (refusal_text r)) }
+{
+    writeln!(out, "refused {} flow {} at {}", r.number, r.flow, r.place)
 }
 
 // What a call on a table did, or its refusal.
-pub fn print_done<W: Write>(out: &mut W, answer: Answer, done: &[u8]) -> io::Result<()> {
+pub fn print_done<W: Write>(out: &mut W, answer: Answer, done: &[u8]) -> io::Result<()>
+    ensures { OnOk result (Appends (W.contents out.old) (W.contents out.new) (done_text answer done.now)) }
+{
     let cause = answer.cause;
     if flows::accepted(cause) {
         put(out, done)
@@ -90,14 +91,18 @@ pub fn print_done<W: Write>(out: &mut W, answer: Answer, done: &[u8]) -> io::Res
 }
 
 // The figures of the flow that was asked for, or the refusal.
-pub fn print_asked<W: Write>(out: &mut W, number: u8, asked: Asked) -> io::Result<()> {
+pub fn print_asked<W: Write>(out: &mut W, number: u8, asked: Asked) -> io::Result<()>
+    ensures { OnOk result (Appends (W.contents out.old) (W.contents out.new) (asked_text number asked)) }
+{
     match asked {
         Asked::Given(g) => print_flow(out, number, g),
         Asked::Refused(r) => print_refusal(out, r),
     }
 }
 
-pub fn print_length<W: Write>(out: &mut W, n: usize) -> io::Result<()> {
+pub fn print_length<W: Write>(out: &mut W, n: usize) -> io::Result<()>
+    ensures { OnOk result (Appends (W.contents out.old) (W.contents out.new) (length_text n)) }
+{
     put_number(out, n as u64)?;
     put(out, b"\n")
 }
@@ -105,6 +110,7 @@ pub fn print_length<W: Write>(out: &mut W, n: usize) -> io::Result<()> {
 // A figure from 0 to f.
 fn digit(n: u8) -> u8
     requires { n < 16 }
+    ensures { result ≡ digit_of n }
 {
     if n < 10 {
         return b'0' + n;
@@ -112,21 +118,27 @@ fn digit(n: u8) -> u8
     b'a' + (n - 10)
 }
 
-fn print_byte<W: Write>(out: &mut W, byte: u8) -> io::Result<()> {
+fn print_byte<W: Write>(out: &mut W, byte: u8) -> io::Result<()>
+    ensures { OnOk result (Appends (W.contents out.old) (W.contents out.new) (byte_text byte)) }
+{
     let pair = [digit(byte / 16), digit(byte % 16)];
     put(out, &pair)
 }
 
 // The first n bytes, or all that there are, in hexadecimal on a line.
-pub fn print_bytes<W: Write>(out: &mut W, bytes: &[u8], n: usize) -> io::Result<()> {
-    for byte in bytes.iter().take(n) {
+pub fn print_bytes<W: Write>(out: &mut W, bytes: &[u8], n: usize) -> io::Result<()>
+    ensures { OnOk result (Appends (W.contents out.old) (W.contents out.new) (hex_text (take n bytes.now))) }
+{
+    for byte in &bytes[..n.min(bytes.len())] {
         print_byte(out, *byte)?;
     }
     put(out, b"\n")
 }
 
 // The bytes that were written to the start of these, or the refusal.
-fn print_written<W: Write>(out: &mut W, written: Written, bytes: &[u8]) -> io::Result<()> {
+fn print_written<W: Write>(out: &mut W, written: Written, bytes: &[u8]) -> io::Result<()>
+    ensures { OnOk result (Appends (W.contents out.old) (W.contents out.new) (written_text written bytes.now)) }
+{
     match written {
         Written::Length(n) => print_bytes(out, bytes, n),
         Written::Refused(r) => print_refusal(out, r),
@@ -134,21 +146,27 @@ fn print_written<W: Write>(out: &mut W, written: Written, bytes: &[u8]) -> io::R
 }
 
 // The plan of a set, in hexadecimal; 550 bytes hold any.
-pub fn print_set<W: Write>(out: &mut W, set: FlowSet) -> io::Result<()> {
+pub fn print_set<W: Write>(out: &mut W, set: FlowSet) -> io::Result<()>
+    ensures { OnOk result (Appends (W.contents out.old) (W.contents out.new) (set_text set)) }
+{
     let mut buffer = [0u8; 550];
     let written = plan::write(&mut buffer, set);
     print_written(out, written, &buffer)
 }
 
 // The report of a table, in hexadecimal; 131 bytes hold any.
-pub fn print_table_report<W: Write>(out: &mut W, t: Table) -> io::Result<()> {
+pub fn print_table_report<W: Write>(out: &mut W, t: Table) -> io::Result<()>
+    ensures { OnOk result (Appends (W.contents out.old) (W.contents out.new) (table_report_text t)) }
+{
     let mut buffer = [0u8; 131];
     let written = reports::write_report(&mut buffer, t);
     print_written(out, written, &buffer)
 }
 
 // What writing a table's plan into these bytes answers, and then the bytes.
-fn print_into<W: Write>(out: &mut W, bytes: &mut [u8], t: Table) -> io::Result<()> {
+fn print_into<W: Write>(out: &mut W, bytes: &mut [u8], t: Table) -> io::Result<()>
+    ensures { OnOk result (Appends (W.contents out.old) (W.contents out.new) (into_text t bytes.old)) }
+{
     let written = plans::write_plan(bytes, t);
     match written {
         Written::Length(n) => print_length(out, n)?,
@@ -158,15 +176,19 @@ fn print_into<W: Write>(out: &mut W, bytes: &mut [u8], t: Table) -> io::Result<(
 }
 
 // The same for a buffer of n bytes, or of LENT if n is more, each UNTOUCHED.
-pub fn print_lent<W: Write>(out: &mut W, t: Table, n: usize) -> io::Result<()> {
+pub fn print_lent<W: Write>(out: &mut W, t: Table, n: usize) -> io::Result<()>
+    ensures { OnOk result (Appends (W.contents out.old) (W.contents out.new) (lent_text t n)) }
+{
     let mut buffer = [UNTOUCHED; LENT];
     if LENT < n {
         return print_into(out, &mut buffer, t);
     }
-    print_into(out, &mut buffer[0..n], t)
+    print_into(out, &mut buffer[..n], t)
 }
 
-fn print_outcome<W: Write>(out: &mut W, outcome: Outcome) -> io::Result<()> {
+fn print_outcome<W: Write>(out: &mut W, outcome: Outcome) -> io::Result<()>
+    ensures { OnOk result (Appends (W.contents out.old) (W.contents out.new) (outcome_text outcome)) }
+{
     print_refusal(
         out,
         flows::refuse(flows::cause_in(outcome), flows::place_in(outcome)),
@@ -174,7 +196,9 @@ fn print_outcome<W: Write>(out: &mut W, outcome: Outcome) -> io::Result<()> {
 }
 
 // How many flows were read, or the refusal.
-pub fn print_reading<W: Write>(out: &mut W, reading: Reading) -> io::Result<()> {
+pub fn print_reading<W: Write>(out: &mut W, reading: Reading) -> io::Result<()>
+    ensures { OnOk result (Appends (W.contents out.old) (W.contents out.new) (read_text reading)) }
+{
     let outcome = reading.outcome;
     let Outcome::Read = outcome else {
         return print_outcome(out, outcome);
@@ -186,7 +210,9 @@ pub fn print_reading<W: Write>(out: &mut W, reading: Reading) -> io::Result<()> 
 }
 
 // The lines of a report that is read, or the refusal.
-pub fn print_report<W: Write>(out: &mut W, bytes: &[u8]) -> io::Result<()> {
+pub fn print_report<W: Write>(out: &mut W, bytes: &[u8]) -> io::Result<()>
+    ensures { OnOk result (Appends (W.contents out.old) (W.contents out.new) (shown_text bytes.now)) }
+{
     let reading = lines::read(bytes);
     let outcome = reading.outcome;
     let Outcome::Read = outcome else {
@@ -197,7 +223,9 @@ pub fn print_report<W: Write>(out: &mut W, bytes: &[u8]) -> io::Result<()> {
 }
 
 // The table of an accepted plan, or the refusal.
-pub fn print_plan<W: Write>(out: &mut W, plan: &[u8]) -> io::Result<()> {
+pub fn print_plan<W: Write>(out: &mut W, plan: &[u8]) -> io::Result<()>
+    ensures { OnOk result (Appends (W.contents out.old) (W.contents out.new) (plan_text plan.now)) }
+{
     let answer = plans::read_plan(plan);
     let cause = answer.cause;
     if !flows::accepted(cause) {

@@ -1,0 +1,2 @@
+-- The lemmas of `show`.
+mod Pieces

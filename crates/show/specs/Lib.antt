@@ -1,0 +1,2 @@
+-- The definitions of `show`.
+pub mod Texts
