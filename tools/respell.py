@@ -29,8 +29,8 @@ def snake(word):
     return re.sub(r"(?<=[a-z0-9])([A-Z])", lambda m: "_" + m.group(1).lower(), word) if word[:1].islower() else word
 
 
-def declared():
-    """The names that specs/ and proofs/ declare, the fields of records, and what is brought from elsewhere."""
+def declared(within):
+    """The names that specs/ and proofs/ declare, the fields of records, and what is brought from elsewhere. Within: those that stand within a module too."""
     tops, fields, brought = {}, {}, set()
     for path in files():
         if not path.endswith((".antt", ".rt")):
@@ -52,7 +52,7 @@ def declared():
                 fields.setdefault(m.group(1), path)
                 continue
             m = re.match(r"\s+(?:(?:abbrev|unfoldable|pub) )*([^\W\d]" + WORD + r"*)\s+:\s", line)
-            if m and not re.search(r"/proofs/.*/", path):
+            if m and within and not re.search(r"/proofs/.*/", path):
                 tops.setdefault(m.group(1), path)
     return tops, fields, brought
 
@@ -68,8 +68,8 @@ def respelt(path, line, pattern, table):
     return to(line)
 
 
-def main():
-    tops, fields, brought = declared()
+def spell(within):
+    tops, fields, brought = declared(within)
     own = {snake(n) for n in tops if "-" not in n}
     table = {}
     for name in tops:
@@ -99,4 +99,6 @@ def main():
                 f.write(new)
 
 
-main()
+# Names within modules were brought over after the others, so a dash before one that only a module declares had become part of the word.
+for within in (True,) if "--list" in sys.argv else (False, True):
+    spell(within)

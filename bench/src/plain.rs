@@ -1,6 +1,5 @@
 //! The library's algorithm in plain Rust: read and test a plan, prepare once, settle flow by flow, with looks near a flow's peaks before it is scanned over
-//! its busy length, at the instants at which a count steps up, or, where nearly every tick is one, at those at which tallies leave room for a rise. For
-//! comparison every turn can be a full scan, or every tick be tried.
+//! its busy length, at the instants at which a count steps up. For comparison every turn can be a full scan, or every tick be tried.
 
 pub const HORIZON: u64 = 65535;
 const NODES: usize = 8;
@@ -23,12 +22,6 @@ const FRESH: u64 = 4;
 /// A scan with no more steps is as short as a look near some peaks.
 const FEW: u64 = 64;
 
-/// A flow with no more ticks to a step is looked at by tallies.
-const DENSE: u64 = 8;
-
-/// The ticks of a tally, which the library lays in what it is lent for the steps.
-const TICKS: usize = (3 + FLOWS) * NODES;
-
 #[derive(Clone, Copy, Default)]
 pub struct Flow {
     pub number: u8,
@@ -48,15 +41,14 @@ pub struct Set {
     pub flows: Vec<Flow>,
 }
 
-/// What was done: instants tried, evaluations of a sum, full scans, turns near the peaks, ticks tallied.
+/// What was done: instants tried, evaluations of a sum, full scans, turns near the peaks.
 #[derive(Default)]
 pub struct Counts {
     pub instants: u64,
     pub sums: u64,
     pub scans: u64,
     pub looks: u64,
-    pub ticks: u64,
-    /// The work after which settling is given up.
+    /// The sums after which settling is given up.
     pub most: Option<u64>,
 }
 
@@ -66,13 +58,6 @@ impl Counts {
         self.sums += other.sums;
         self.scans += other.scans;
         self.looks += other.looks;
-        self.ticks += other.ticks;
-    }
-
-    /// Sums, with each instant as four, each turn as forty and each tick as WEIGHT, about what they take beside them: the same for a plan whatever else
-    /// the machine does.
-    pub fn work(&self) -> u64 {
-        self.sums + 4 * self.instants + 40 * (self.scans + self.looks) + self.ticks
     }
 }
 
@@ -342,13 +327,26 @@ impl Prepared<'_> {
         pair.role == Role::Equal && (pair.first as usize) < self.set.flows[a].length
     }
 
-    /// About how many steps a full scan of flow a has, by the packets in its busy length.
-    fn steps(&self, a: usize) -> u64 {
-        let packets = |b: usize| self.facts[a].busy / self.set.flows[b].period;
-        (0..self.set.flows.len())
+    /// How far to each side of its peaks flow a is looked at, with that many turns left: so many steps, by the packets in its busy length.
+    fn reach(&self, a: usize, turns: u64) -> u64 {
+        let busy = self.facts[a].busy;
+        if turns <= 1 {
+            return busy;
+        }
+        let packets = |b: usize| busy / self.set.flows[b].period;
+        let steps: u64 = (0..self.set.flows.len())
             .filter(|&b| b == a || self.meets_equal(a, b))
             .map(packets)
-            .sum()
+            .sum();
+        if steps <= FEW {
+            return busy;
+        }
+        let near = match turns {
+            2 => 1024,
+            3 => 64,
+            _ => 4,
+        };
+        near * (1 + busy / steps)
     }
 
     /// Whether a bound of flow a stands in the sums of flow b.
@@ -361,19 +359,6 @@ impl Prepared<'_> {
             Role::Lower => false,
         }
     }
-}
-
-/// How far to each side of its peaks a flow is looked at, with that many turns left: so many of the steps in its busy length.
-fn reach(turns: u64, steps: u64, busy: u64) -> u64 {
-    if turns <= 1 || steps <= FEW {
-        return busy;
-    }
-    let near = match turns {
-        2 => 1024,
-        3 => 64,
-        _ => 4,
-    };
-    near * (1 + busy / steps)
 }
 
 /// What a count looks at, what is added, what is taken off, the period, the weight.
@@ -470,16 +455,12 @@ impl Prepared<'_> {
     }
 }
 
-/// The packets of a period in a − b.
-fn count(a: u64, b: u64, period: u64) -> u64 {
-    if a < b {
+fn term(e: &Entry, seen: u64) -> u64 {
+    let x = seen + e.plus;
+    if x < e.less {
         return 0;
     }
-    1 + (a - b) / period
-}
-
-fn term(e: &Entry, seen: u64) -> u64 {
-    count(seen + e.plus, e.less, e.period) * e.weight
+    (1 + (x - e.less) / e.period) * e.weight
 }
 
 /// What is kept of a node along the walk: the part of its sum that hangs on nothing but the instant, its next step, whether an entry looks
@@ -577,33 +558,6 @@ struct Best {
     peaks: [u64; NODES],
 }
 
-/// Raises the bounds to those at instant u, from starting times of an instant before it; none where one passes the horizon.
-fn instant(
-    sheet: &[Block],
-    kept: &[Kept; NODES],
-    v: &mut [u64; SLOTS],
-    u: u64,
-    best: &mut Best,
-    counts: &mut Counts,
-) -> Option<()> {
-    counts.instants += 1;
-    v[INSTANT] = u;
-    for (p, block) in sheet.iter().enumerate() {
-        // A starting time that has not moved: its bound has fallen.
-        if !kept[p].looking && kept[p].sum <= v[p] {
-            continue;
-        }
-        let w = block.start(&kept[p], v, p, u, counts)?;
-        v[p] = w;
-        let bound = (w + block.added).saturating_sub(u);
-        if best.bounds[p] < bound {
-            best.bounds[p] = bound;
-            best.peaks[p] = u;
-        }
-    }
-    Some(())
-}
-
 /// Raises the bounds to those over these instants, each with the first at which it is reached; none where one passes the horizon.
 fn responses(
     sheet: &[Block],
@@ -617,6 +571,7 @@ fn responses(
     let mut kept = [Kept::default(); NODES];
     let mut u = from;
     while u < end {
+        counts.instants += 1;
         let mut next = end;
         for (block, kept) in sheet.iter().zip(&mut kept) {
             let step = if u == from {
@@ -626,7 +581,16 @@ fn responses(
             };
             next = next.min(step);
         }
-        instant(sheet, &kept, &mut v, u, best, counts)?;
+        v[INSTANT] = u;
+        for (p, block) in sheet.iter().enumerate() {
+            let w = block.start(&kept[p], &mut v, p, u, counts)?;
+            v[p] = w;
+            let bound = (w + block.added).saturating_sub(u);
+            if best.bounds[p] < bound {
+                best.bounds[p] = bound;
+                best.peaks[p] = u;
+            }
+        }
         u = match walk {
             Walk::Near | Walk::Steps => next,
             Walk::Ticks => u + 1,
@@ -635,128 +599,25 @@ fn responses(
     Some(())
 }
 
-/// Lays a weight on each tick of a tally at which a count of a − b steps up; gives what the count has before them.
-fn lay(tally: &mut [u64], a: u64, b: u64, period: u64, weight: u64) -> u64 {
-    let c = count(a, b, period);
-    let mut d = b + c * period - a;
-    while d < tally.len() as u64 {
-        tally[d as usize] += weight;
-        d += period;
-    }
-    c * weight
-}
-
-/// The first tick of a tally, as many as it has for none, at which node p is *above*. The ceiling of a node is the greatest starting time with which its
-/// bound does not rise; a node is above where its sum is, with ceilings in place of starting times. Where no node is, no starting time is above its
-/// ceiling. The nodes before p are not above at the first tick.
-fn node_above(sheet: &[Block], best: &Best, p: usize, from: u64, tally: &mut [u64]) -> usize {
-    let block = &sheet[p];
-    if best.bounds[p] + from < block.added {
-        return 0;
-    }
-    let ceiling = |q: usize| best.bounds[q] + from - sheet[q].added;
-    let limit = ceiling(p);
-    tally.fill(0);
-    let mut sum = block.base;
-    for e in &block.entries[..block.count] {
-        let seen = match e.look {
-            INSTANT => from,
-            HERE => limit,
-            q => ceiling(q),
-        };
-        sum += lay(tally, seen + e.plus, e.less, e.period, e.weight);
-    }
-    for (i, weights) in tally.iter().enumerate() {
-        sum += weights;
-        if limit + (i as u64) < sum {
-            return i;
-        }
-    }
-    tally.len()
-}
-
-/// The first instant of a tally at which some node is above; the one behind it for none.
-fn some_above(sheet: &[Block], best: &Best, from: u64, tally: &mut [u64]) -> u64 {
-    let mut n = tally.len();
-    for p in 0..sheet.len() {
-        n = node_above(sheet, best, p, from, &mut tally[..n]);
-        if n == 0 {
-            return from;
-        }
-    }
-    from + n as u64
-}
-
-/// The first of these instants at which some node is above; the end for none.
-fn first_above(
-    sheet: &[Block],
-    best: &Best,
-    instants: std::ops::Range<u64>,
-    tally: &mut [u64; TICKS],
-    counts: &mut Counts,
-) -> u64 {
-    let (mut u, end) = (instants.start, instants.end);
-    while u < end {
-        let n = (end - u).min(TICKS as u64);
-        counts.ticks += n;
-        let above = some_above(sheet, best, u, &mut tally[..n as usize]);
-        if above < u + n {
-            return above;
-        }
-        u = above;
-    }
-    end
-}
-
-/// What `responses` does, where nearly every tick is a step: starting times are worked out at instants alone at which some node is above.
-fn tallied(
-    sheet: &[Block],
-    instants: std::ops::Range<u64>,
-    best: &mut Best,
-    counts: &mut Counts,
-) -> Option<()> {
-    let (mut u, end) = (instants.start, instants.end);
-    let mut v = [0u64; SLOTS];
-    let mut kept = [Kept::default(); NODES];
-    let mut tally = [0u64; TICKS];
-    loop {
-        u = first_above(sheet, best, u..end, &mut tally, counts);
-        if end <= u {
-            return Some(());
-        }
-        for (block, kept) in sheet.iter().zip(&mut kept) {
-            block.begin(kept, u, end);
-        }
-        instant(sheet, &kept, &mut v, u, best, counts)?;
-        u += 1;
-    }
-}
-
 /// The bounds raised near each peak, from the last node's on, so far to each side; or over the busy length where that is no farther. A peak near the one
-/// that was looked at before it is passed over. Where steps are dense in the busy length, by tallies.
+/// that was looked at before it is passed over.
 fn look(
     sheet: &[Block],
     best: &mut Best,
     far: u64,
     busy: u64,
-    steps: u64,
     walk: Walk,
     counts: &mut Counts,
 ) -> Option<()> {
-    let dense = walk == Walk::Near && busy / DENSE <= steps;
-    let mut raise = |instants, best: &mut Best| match dense {
-        true => tallied(sheet, instants, best, counts),
-        false => responses(sheet, instants, best, walk, counts),
-    };
     if busy <= far {
-        return raise(0..busy, best);
+        return responses(sheet, 0..busy, best, walk, counts);
     }
     let peaks = best.peaks;
     let mut last = busy + far;
     for &peak in peaks[..sheet.len()].iter().rev() {
         if last.abs_diff(peak) >= far {
             let near = peak.saturating_sub(far)..busy.min(peak + far);
-            raise(near, best)?;
+            responses(sheet, near, best, walk, counts)?;
             last = peak;
         }
     }
@@ -790,17 +651,16 @@ fn settle(prepared: &Prepared, walk: Walk, counts: &mut Counts) -> Option<Held> 
     let fresh = if walk == Walk::Near { FRESH } else { 1 };
     let mut last = n;
     while let Some(a) = choose(set, &marks[..n], last) {
-        if counts.most.is_some_and(|most| most < counts.work()) {
+        if counts.most.is_some_and(|most| most < counts.sums) {
             return None;
         }
         let m = set.flows[a].length;
         last = a;
         prepared.write(&mut sheet[..m], &held, a);
         let busy = prepared.facts[a].busy;
-        let steps = prepared.steps(a);
-        let far = reach(marks[a], steps, busy);
+        let far = prepared.reach(a, marks[a]);
         let mut best = held[a];
-        look(&sheet[..m], &mut best, far, busy, steps, walk, counts)?;
+        look(&sheet[..m], &mut best, far, busy, walk, counts)?;
         let rose = held[a].bounds != best.bounds;
         held[a] = best;
         if far < busy {

@@ -7,7 +7,7 @@ use native.Mathlib.Nat.{mul-le-mul_right}
 use lib.ListN.{length}
 use borrow.Author.Count.{below_more}
 use Rattle.least.specs.Lists.{values, Inside}
-use Rattle.blocks.specs.Sheet.{entries_in, entry_at, Looking}
+use Rattle.blocks.specs.Sheet.{entries_in, entry_at, Shaped, Looking}
 use Rattle.steps.specs.Steps.{EntryStep, NodeStep}
 use Rattle.steps.specs.Kept.{kept_size, KeptAt}
 use Rattle.steps.proofs.Kept.{kept_later}
@@ -37,6 +37,9 @@ kept_same {e} {end} {u} {p} {at} {steps} {steps'} same kept = record {
   each = λ q h. subst (EntryStep e (entry_at e p q) u end) (sym (same (at + kept_size + q) (omega arith) (omega arith))) (kept.each q h);
   after = λ q h. omega (arith, same (at + 1) (omega arith) (omega arith), same (at + kept_size + q) (omega arith) (omega arith), kept.after q h);
 }
+
+pub shaped_less : {e : List ℕ} {m m' : ℕ} → m' ≤ m → Shaped e m → Shaped e m'
+shaped_less h s = record { whole = λ p q. s.whole p (omega arith); few = λ p q. s.few p (omega arith); short = s.short; small = s.small; looks = λ p q a b. s.looks p q (omega arith) b }
 
 -- the first p nodes
 pub record Noded (e : List ℕ) (stride m end u : ℕ) (steps₀ steps : List ℕ) (next at p : ℕ) : Type 0 where

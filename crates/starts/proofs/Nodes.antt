@@ -12,11 +12,9 @@ use borrow.Author.Tests.{eqb-true, eqb-false}
 use Rattle.least.specs.Lists.{values, Inside}
 use Rattle.least.proofs.Stores.{set_cases, inside-none}
 use Rattle.least.specs.Fixed.{Under}
-use Rattle.least.proofs.Fixed.{under_done}
-use Rattle.blocks.specs.Sheet.{most_instant, instant_slot, node_slot, added, instant_sum, seen, sums, Small, Fit, Looking}
-use Rattle.blocks.proofs.Looks.{look_never}
+use Rattle.blocks.specs.Sheet.{most_instant, instant_slot, node_slot, added, sums, Small, Fit}
 use Rattle.starts.specs.Begins.{BeginIs, BeginFits, Kept}
-use Rattle.starts.specs.Runs.{most_time, StartsOf, Behind, LowTo, RaisedAt, Resting, AtNode, PastAt}
+use Rattle.starts.specs.Runs.{most_time, StartsOf, Behind, LowTo, RaisedAt, AtNode, PastAt}
 use Rattle.starts.specs.declared.Begin.{Begin}
 use Rattle.starts.specs.declared.Begin.TheVariants.{At, Past}
 use Rattle.starts.proofs.Sums.{sums_same, start_found, from_under}
@@ -40,18 +38,12 @@ pub record Going (e : List ℕ) (m u : ℕ) (slots₀ best₀ slots best : List 
   pub small : Small slots
   pub low : LowTo m best
   pub behind : Inside 0 (m + m) best₀ best
-  pub rests : Resting e m u slots best
   pub passed : (W : ℕ → ℕ → ℕ) → StartsOf e m W → Behind e m W u slots₀ → Passed e W m u best₀ slots best p
 
-pub going_as : {e : List ℕ} {m u : ℕ} {slots₀ best₀ slots best slots' best' : List ℕ} {p : ℕ} → slots' ≡ slots → best' ≡ best →
-    Going e m u slots₀ best₀ slots best p → Going e m u slots₀ best₀ slots' best' p
-going_as {e} {m} {u} {slots₀} {best₀} {slots} {best} {slots'} {best'} {p} a b going =
-    subst (λ x. Going e m u slots₀ best₀ x best' p) (sym a) (subst (λ y. Going e m u slots₀ best₀ slots y p) (sym b) going)
-
 module _ (e : List ℕ) (m u : ℕ) where
-  pub going_start : (slots best : List ℕ) → node_slot m ≤ length slots → m + m ≤ length best → u ≤ most_instant → Small slots → LowTo m best → Resting e m u slots best →
+  pub going_start : (slots best : List ℕ) → node_slot m ≤ length slots → m + m ≤ length best → u ≤ most_instant → Small slots → LowTo m best →
       Going e m u (set slots instant_slot u) best (set slots instant_slot u) best 0
-  going_start slots best room wide short small low rests = record {
+  going_start slots best room wide short small low = record {
     few = omega arith;
     room = simp length-set room;
     long = refl;
@@ -60,9 +52,6 @@ module _ (e : List ℕ) (m u : ℕ) where
     small = set_cases (λ j v. v < 16777216) slots instant_slot u (omega arith) (omega arith) (λ j h. small j);
     low = low;
     behind = inside-none;
-    rests = λ k q h.
-        let same = get_or-set_other slots instant_slot (node_slot k) u 0 (λ z. omega arith) in
-        omega (arith, same, rests k q (omega (arith, same)));
     passed = λ W starts first. record {
       found = λ k h. absurd (omega arith);
       left = λ k h q. first k q;
@@ -86,9 +75,6 @@ module _ (e : List ℕ) (m u : ℕ) where
     small = kept.small;
     low = going.low;
     behind = going.behind;
-    rests = λ k q h.
-        let same = kept.others (node_slot k) (λ z. omega arith) in
-        omega (arith, same, going.rests k q (omega (arith, same)));
     passed = λ W starts first. (let old = going.passed W starts first in record {
       found = λ k h. record {
         start = kept.others (node_slot k) (λ z. omega arith) ∙ (old.found k h).start;
@@ -114,42 +100,6 @@ module _ (e : List ℕ) (m u : ℕ) where
       found-sum : sums e u p (nodes slots) (W u p) ≤ W u p
       found-sum = omega (arith, sums_same e m fit u p on (nodes slots) (W u) earlier (W u p), (starts u p on).fixed)
 
-    -- a node that rests: its slot has its starting time
-    module _ (kept looks : ℕ) (sum : kept ≡ instant_sum e p u) (looking : Looking e p looks) (none : looks ≡ 0) (still : kept ≤ nodes slots p) (some : 0 < nodes slots p) where
-      pub going_rest : Going e m u slots₀ best₀ slots best (p + 1)
-      going_rest = record {
-        few = omega arith;
-        room = going.room;
-        long = going.long;
-        wide = going.wide;
-        time = going.time;
-        small = going.small;
-        low = going.low;
-        behind = going.behind;
-        rests = going.rests;
-        passed = λ W starts first.
-            let old = going.passed W starts first in
-            record {
-              found = below_more (AtNode e m W u best₀ slots best) p old.found (here W starts first);
-              left = λ j h q. old.left j (omega arith) q;
-              kept = λ j h q. old.kept j (omega arith) q;
-            };
-      }
-        where
-          here : (W : ℕ → ℕ → ℕ) → StartsOf e m W → Behind e m W u slots₀ → AtNode e m W u best₀ slots best p
-          here W starts first =
-              let was = (going.passed W starts first).kept p (omega arith) on in
-              let is = start_found e m fit W starts u p (nodes slots p) on (nodes slots) (earlier W starts first)
-              (under_done (under W starts first) (omega (arith, look_never e p (seen (nodes slots) (nodes slots p) u) looks kept looking none sum))) in
-              let most = going.rests p on some in
-              record {
-                start = is;
-                greatest = omega (arith, was.0, is, most);
-                kept = λ h. was.1;
-                peak = λ h. absurd (omega (arith, was.0, is, most));
-                within = omega (arith, is, most, going.low p on);
-              }
-
     -- what start_at gives at p
     module _ (r : Begin) (begin : Under (sums e u p (nodes slots)) (nodes slots p) → BeginIs e u p (nodes slots) r) where
       pub going_past : r ≡ Past → (W : ℕ → ℕ → ℕ) → StartsOf e m W → Behind e m W u slots₀ → PastAt e m W u
@@ -174,16 +124,6 @@ module _ (e : List ℕ) (m u : ℕ) where
           lows : (j : ℕ) → j < m → (t : Bool) → eqb j p ≡ t → values best' j ≤ most_time
           lows j q true z = subst (λ i. values best' i ≤ most_time) (sym (eqb-true j p z)) (omega (arith, raised.greatest, begin_small, going.low p on))
           lows j q false z = omega (arith, raised.others j (eqb-false j p z) (λ y. omega arith), going.low j q)
-
-          resting : (j : ℕ) → j < m → 0 < values (set slots' (node_slot p) w) (node_slot j) → (t : Bool) → eqb j p ≡ t →
-              values (set slots' (node_slot p) w) (node_slot j) + added e j ≤ values best' j + u
-          resting j q h true z =
-              subst (λ i. values (set slots' (node_slot p) w) (node_slot i) + added e i ≤ values best' i + u) (sym (eqb-true j p z))
-              (omega (arith, get_or-set_same slots' (node_slot p) w 0 (omega (arith, now.room)), raised.greatest, reply))
-          resting j q h false z =
-              let ne = eqb-false j p z in
-              let same = get_or-set_other slots' (node_slot p) (node_slot j) w 0 (λ y. ne (omega arith)) in
-              omega (arith, same, raised.others j ne (λ y. omega arith), now.rests j q (omega (arith, same)))
 
           module _ (W : ℕ → ℕ → ℕ) (starts : StartsOf e m W) (first : Behind e m W u slots₀) where
             old : Passed e W m u best₀ slots' best p
@@ -235,7 +175,6 @@ module _ (e : List ℕ) (m u : ℕ) where
               behind = λ k h. raised.others k (λ z. omega arith) (λ z. omega arith) ∙ going.behind.behind k h;
               long = raised.long ∙ going.behind.long;
             };
-            rests = λ j q h. resting j q h (eqb j p) refl;
             passed = passed;
           }
 

@@ -2,12 +2,12 @@
 // steps and bounds are lent, so nothing here has a size.
 #![tactic(auto)]
 
-ghost use Rattle.std.specs.Prelude.{◌≡◌, false, ◌+◌, ◌-◌, ◌<◌, ◌≤◌, length};
+ghost use Rattle.std.specs.Prelude.{◌≡◌, ◌+◌, ◌-◌, ◌<◌, ◌≤◌, length};
 ghost use Rattle.least.specs.Fixed.{Under};
 ghost use Rattle.least.specs.Lists.{values, Inside};
 ghost use Rattle.blocks.specs.Sheet.{most_instant, instant_slot, node_slot, instant_sum, sums, Small, Shaped, Looking};
 ghost use Rattle.starts.specs.Begins.{BeginIs, BeginFits, Kept};
-ghost use Rattle.starts.specs.Runs.{LowTo, RaisedAt, Resting, InstantIs, ResponsesAre};
+ghost use Rattle.starts.specs.Runs.{LowTo, RaisedAt, InstantIs, ResponsesAre};
 ghost use Rattle.starts.specs.Steps.{SheetStep};
 ghost use Rattle.starts.specs.Kept.{Strided, KeptTo, SumsTo};
 
@@ -56,22 +56,8 @@ fn raise_at(best: &mut [u64], m: usize, p: usize, bound: u64, u: u64)
     }
 }
 
-// Whether a node's starting time may have moved since the instant tried before: a count looks at a starting time, or one has stepped. Where it has not,
-// W + C − t has fallen.
-fn moves(kept: u64, looks: u64, from: u64) -> bool
-    ensures { result ≡ false → (looks ≡ 0) × (kept ≤ from) × (0 < from) }
-{
-    if looks != 0 {
-        return true;
-    }
-    if from == 0 {
-        return true;
-    }
-    from < kept
-}
-
 // The instant u at the first m nodes, from the kept sums, from starts below the starting times, and from the bounds and the peaks so far; whether one
-// passes the horizon. A node whose starting time has not moved is passed over.
+// passes the horizon.
 fn instant(
     e: &[u64],
     slots: &mut [u64],
@@ -82,28 +68,23 @@ fn instant(
     u: u64,
 ) -> bool
     requires shaped { Shaped e.now m × (u ≤ most_instant) × Small slots.old × (node_slot m ≤ length slots.old) × (m + m ≤ length best.old) × (m + m ≤ 16777216) × LowTo m best.old }
-    requires strided { Strided e.now stride m steps.now × SumsTo e.now stride u steps.now m × Resting e.now m u slots.old best.old }
+    requires strided { Strided e.now stride m steps.now × SumsTo e.now stride u steps.now m }
     ensures instant_is { InstantIs e.now m u slots.old best.old result slots.new best.new }
     ensures small { Small slots.new × (length slots.new ≡ length slots.old) }
     ensures low_to { LowTo m best.new × Inside 0 (m + m) best.old best.new }
-    ensures resting { result ≡ false → Resting e.now m u slots.new best.new }
 {
     slots[INSTANT] = u;
     let mut at: usize = 0;
     let mut p: usize = 0;
     while p < m {
         let from = slots[p + NODE];
-        let kept = steps[at];
-        let looks = steps[at + 2];
-        if moves(kept, looks, from) {
-            let Begin::At(w) = start_at(e, slots, p, u, kept, looks, from) else {
-                return true;
-            };
-            slots[p + NODE] = w;
-            let add = e[blocks::block_at(e, p) + 1];
-            let bound = least::less(w + add, u);
-            raise_at(best, m, p, bound, u);
-        }
+        let Begin::At(w) = start_at(e, slots, p, u, steps[at], steps[at + 2], from) else {
+            return true;
+        };
+        slots[p + NODE] = w;
+        let add = e[blocks::block_at(e, p) + 1];
+        let bound = least::less(w + add, u);
+        raise_at(best, m, p, bound, u);
         at += stride;
         p += 1;
     }

@@ -1,18 +1,16 @@
-use mathlib.Core.Path.{sym, ap, ◌∙◌, subst}
 use Prim.Native.Nat.{◌+◌}
-use lib.ListN.{set, length-set}
+use Rattle.starts.proofs.Nodes.{going_start, first_set, going_past, begin_small, going_more, going_end}
+use Rattle.starts.proofs.Kept.{strided-room, shaped_less}
+use mathlib.Core.Path.{sym, ap, ◌∙◌, subst}
+use lib.ListN.{length-set}
 use Rattle.least.specs.Lists.{values}
-use Rattle.least.proofs.Fold.{false_true}
 use Rattle.blocks.specs.Sheet.{node_slot, Looking}
-use Rattle.starts.proofs.Nodes.{Going, going_start, first_set, going_as, going_rest, going_past, begin_small, going_more, going_end}
-use Rattle.blocks.proofs.Terms.{shaped_less}
-use Rattle.starts.proofs.Kept.{strided-room}
 use native.Mathlib.Omega.{arith}
 use Rattle.starts.proofs.instant.Goals as goal
 
 pub loop-p-init : goal.loop-p-init
 loop-p-init c =
-    (going_start c.args.e.now c.args.m c.args.u c.args.slots.now c.args.best.now c.requires.shaped.3 c.requires.shaped.4 c.requires.shaped.1 c.requires.shaped.2 c.requires.shaped.6 c.requires.strided.2, omega arith)
+    (going_start c.args.e.now c.args.m c.args.u c.args.slots.now c.args.best.now c.requires.shaped.3 c.requires.shaped.4 c.requires.shaped.1 c.requires.shaped.2 c.requires.shaped.6, omega arith)
 
 pub offset_bounds-steps-at : goal.offset_bounds-steps-at
 offset_bounds-steps-at c = omega (arith, (strided-room c.requires.strided.0 c.loop-p.invariant.1 (omega arith)).0, c.requires.strided.0.short)
@@ -20,8 +18,8 @@ offset_bounds-steps-at c = omega (arith, (strided-room c.requires.strided.0 c.lo
 pub bounds-steps-at : goal.bounds-steps-at
 bounds-steps-at c = omega (arith, (strided-room c.requires.strided.0 c.loop-p.invariant.1 (omega arith)).0)
 
-pub overflow_add-looks : goal.overflow_add-looks
-overflow_add-looks c = omega (arith, (strided-room c.requires.strided.0 c.loop-p.invariant.1 (omega arith)).0, c.requires.strided.0.short)
+pub overflow_add-at : goal.overflow_add-at
+overflow_add-at c = omega (arith, (strided-room c.requires.strided.0 c.loop-p.invariant.1 (omega arith)).0, c.requires.strided.0.short)
 
 pub offset_bounds-steps-at-in-loop-p : goal.offset_bounds-steps-at-in-loop-p
 offset_bounds-steps-at-in-loop-p c = omega (arith, (strided-room c.requires.strided.0 c.loop-p.invariant.1 (omega arith)).0, c.requires.strided.0.short)
@@ -31,7 +29,8 @@ bounds-steps-at-in-loop-p c = omega (arith, (strided-room c.requires.strided.0 c
 
 pub start_at-requires : goal.start_at-requires
 start_at-requires c =
-    let h = c.requires.strided.1 c.loop-p.p (omega arith) in (shaped_less (omega arith) c.requires.shaped.0, c.loop-p.invariant.0.small, omega (arith, c.loop-p.invariant.0.room), c.loop-p.invariant.0.time, c.requires.shaped.1, ap (values c.args.steps.now) c.loop-p.invariant.1 ∙ h.0, subst (λ x. Looking c.args.e.now c.loop-p.p (values c.args.steps.now (x + 2))) (sym c.loop-p.invariant.1) h.1, c.loop-p.invariant.0.small (node_slot c.loop-p.p))
+    let h = c.requires.strided.1 c.loop-p.p (omega arith) in
+    (shaped_less (omega arith) c.requires.shaped.0, c.loop-p.invariant.0.small, omega (arith, c.loop-p.invariant.0.room), c.loop-p.invariant.0.time, c.requires.shaped.1, ap (values c.args.steps.now) c.loop-p.invariant.1 ∙ h.0, subst (λ x. Looking c.args.e.now c.loop-p.p (values c.args.steps.now (x + 2))) (sym c.loop-p.invariant.1) h.1, c.loop-p.invariant.0.small (node_slot c.loop-p.p))
 
 pub shape_of-slots-in_default : goal.shape_of-slots-in_default
 shape_of-slots-in_default c = c.start_at.ensures.kept.long ∙ c.loop-p.invariant.0.long ∙ length-set c.args.slots.now 1 c.args.u
@@ -41,39 +40,25 @@ shape_of-best-in_default c = c.loop-p.invariant.0.behind.long
 
 pub returns-in_default : goal.returns-in_default
 returns-in_default c =
-    record { instant_is = λ W t g. going_past c.args.e.now c.args.m c.args.u _ _ c.loop-p.slots c.loop-p.best c.loop-p.p c.loop-p.invariant.0 (omega arith) c.requires.shaped.0.looks c.start_at.result c.start_at.ensures.begin_is c.in_default.is W t (first_set c.args.e.now c.args.m c.args.u c.args.slots.now W g); small = (c.start_at.ensures.kept.small, c.start_at.ensures.kept.long ∙ c.loop-p.invariant.0.long ∙ length-set c.args.slots.now 1 c.args.u); low_to = (c.loop-p.invariant.0.low, c.loop-p.invariant.0.behind); resting = λ z. false_true (sym z) }
+    record { instant_is = λ W t g. going_past c.args.e.now c.args.m c.args.u _ _ c.loop-p.slots c.loop-p.best c.loop-p.p c.loop-p.invariant.0 (omega arith) c.requires.shaped.0.looks c.start_at.result c.start_at.ensures.begin_is c.in_default.is W t (first_set c.args.e.now c.args.m c.args.u c.args.slots.now W g); small = (c.start_at.ensures.kept.small, c.start_at.ensures.kept.long ∙ c.loop-p.invariant.0.long ∙ length-set c.args.slots.now 1 c.args.u); low_to = (c.loop-p.invariant.0.low, c.loop-p.invariant.0.behind) }
 
 pub block_at-requires : goal.block_at-requires
 block_at-requires c = shaped_less (omega arith) c.requires.shaped.0
 
 pub overflow_add-w : goal.overflow_add-w
 overflow_add-w c =
-    omega (arith, c.requires.shaped.1, c.requires.shaped.0.small (c.block_at.result + 1), begin_small c.args.e.now c.args.m c.args.u _ _ c.loop-p.slots c.loop-p.best c.loop-p.p c.loop-p.invariant.0 (omega (arith, c.loop-p-test.true)) c.requires.shaped.0.looks c.start_at.result c.start_at.ensures.begin_is c.start_at.ensures.begin_fits _ c.in-At.is)
+    omega (arith, c.requires.shaped.1, c.requires.shaped.0.small (c.block_at.result + 1), begin_small c.args.e.now c.args.m c.args.u _ _ c.loop-p.slots c.loop-p.best c.loop-p.p c.loop-p.invariant.0 (omega arith) c.requires.shaped.0.looks c.start_at.result c.start_at.ensures.begin_is c.start_at.ensures.begin_fits _ c.in-At.is)
 
 pub raise_at-requires : goal.raise_at-requires
 raise_at-requires c = (omega (arith, c.loop-p-test.true), c.loop-p.invariant.0.wide, c.requires.shaped.5)
 
--- what came of either arm
-going_on : (c : goal.Joined-moves) →
-    Going c.args.e.now c.args.m c.args.u (set c.args.slots.now 1 c.args.u) c.args.best.now c.if-moves.slots c.if-moves.best (c.loop-p.p + 1)
-going_on c =
-    elim c.if-moves.branch [
-      | goal.then-moves+in-At w ↦
-          let s = w.start_at in
-          let k = w.raise_at in
-          let add = ap (λ x. values c.args.e.now (x + 1)) w.block_at.ensures.value in
-          going_as w.slots-is w.best-is (going_more c.args.e.now c.args.m c.args.u _ _ c.loop-p.slots c.loop-p.best c.loop-p.p c.loop-p.invariant.0 c.loop-p-test.true c.requires.shaped.0.looks s.result s.ensures.begin_is s.ensures.begin_fits _ w.in-At.is s.new.v s.ensures.kept w.less-bound.result (omega (arith, add, w.less-bound.ensures)) k.new.best k.ensures c.requires.shaped.1)
-      | goal.else-moves w ↦
-          let h = c.requires.strided.1 c.loop-p.p c.loop-p-test.true in
-          let r = c.moves.ensures w.if-moves.false in
-          going_as w.slots-is w.best-is (going_rest c.args.e.now c.args.m c.args.u _ _ c.loop-p.slots c.loop-p.best c.loop-p.p c.loop-p.invariant.0 c.loop-p-test.true c.requires.shaped.0.looks _ _ (ap (values c.args.steps.now) c.loop-p.invariant.1 ∙ h.0) (subst (λ x. Looking c.args.e.now c.loop-p.p (values c.args.steps.now (x + 2))) (sym c.loop-p.invariant.1) h.1) r.0 r.1 r.2)
-    ]
-
-pub overflow_add-at : goal.overflow_add-at
-overflow_add-at c = omega (arith, (strided-room c.requires.strided.0 c.loop-p.invariant.1 c.loop-p-test.true).1, c.requires.strided.0.short)
+pub overflow_add-at-in-loop-p : goal.overflow_add-at-in-loop-p
+overflow_add-at-in-loop-p c = omega (arith, (strided-room c.requires.strided.0 c.loop-p.invariant.1 (omega (arith, c.loop-p-test.true))).1, c.requires.strided.0.short)
 
 pub loop-p-preserved : goal.loop-p-preserved
-loop-p-preserved c = (going_on c, omega (arith, c.loop-p.invariant.1))
+loop-p-preserved c =
+    let add = ap (λ x. values c.args.e.now (x + 1)) c.block_at.ensures.value in
+    (going_more c.args.e.now c.args.m c.args.u _ _ c.loop-p.slots c.loop-p.best c.loop-p.p c.loop-p.invariant.0 (omega (arith, c.loop-p-test.true)) c.requires.shaped.0.looks c.start_at.result c.start_at.ensures.begin_is c.start_at.ensures.begin_fits _ c.in-At.is c.start_at.new.v c.start_at.ensures.kept c.less-bound.result (omega arith) c.raise_at.new.best c.raise_at.ensures c.requires.shaped.1, omega (arith, c.loop-p.invariant.1))
 
 pub shape_of-slots : goal.shape_of-slots
 shape_of-slots c = c.loop-p.invariant.0.long ∙ length-set c.args.slots.now 1 c.args.u
@@ -83,4 +68,4 @@ shape_of-best c = c.loop-p.invariant.0.behind.long
 
 pub returns : goal.returns
 returns c =
-    record { instant_is = λ W s g. going_end c.args.e.now c.args.m c.args.u _ _ c.loop-p.slots c.loop-p.best c.loop-p.p c.loop-p.invariant.0 (omega arith) W s (first_set c.args.e.now c.args.m c.args.u c.args.slots.now W g); small = (c.loop-p.invariant.0.small, c.loop-p.invariant.0.long ∙ length-set c.args.slots.now 1 c.args.u); low_to = (c.loop-p.invariant.0.low, c.loop-p.invariant.0.behind); resting = λ z. c.loop-p.invariant.0.rests }
+    record { instant_is = λ W s g. going_end c.args.e.now c.args.m c.args.u _ _ c.loop-p.slots c.loop-p.best c.loop-p.p c.loop-p.invariant.0 (omega arith) W s (first_set c.args.e.now c.args.m c.args.u c.args.slots.now W g); small = (c.loop-p.invariant.0.small, c.loop-p.invariant.0.long ∙ length-set c.args.slots.now 1 c.args.u); low_to = (c.loop-p.invariant.0.low, c.loop-p.invariant.0.behind) }

@@ -1,6 +1,6 @@
-use mathlib.Core.Path.{◌≡◌}
 use Prim.Native.Nat.{◌-◌, ◌*◌}
 use Rattle.starts.proofs.Nodes.{Going}
+use mathlib.Core.Path.{◌≡◌}
 use Rattle.starts.proofs.instant.Given as goal
 
 abbrev pub invariant-loop-p : goal.invariant-loop-p

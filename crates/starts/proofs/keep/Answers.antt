@@ -1,8 +1,7 @@
 use mathlib.Core.Path.{sym, subst}
 use Prim.Native.Nat.{◌-◌}
 use Rattle.steps.specs.Kept.{KeptAt}
-use Rattle.blocks.proofs.Terms.{shaped_less}
-use Rattle.starts.proofs.Kept.{strided-room, noded_none, noded_more, noded_left, noded_all}
+use Rattle.starts.proofs.Kept.{strided-room, shaped_less, noded_none, noded_more, noded_left, noded_all}
 use native.Mathlib.Omega.{arith}
 use Rattle.starts.proofs.keep.Goals as goal
 

@@ -18,7 +18,7 @@ keep-next-requires c =
 
 pub instant-requires : goal.instant-requires
 instant-requires c =
-    record { shaped = (c.requires.shaped.0, omega (arith, c.loop-u-test.true, c.requires.shaped.2), c.loop-u.invariant.0.small, omega (arith, c.loop-u.invariant.1, c.fill.ensures.inside.long, c.requires.shaped.4), omega (arith, c.loop-u.invariant.2.long, c.requires.shaped.5), c.requires.shaped.6, c.loop-u.invariant.0.low); strided = (strided_same (c.keep-next.ensures.steps_len_unchanged ∙ c.loop-u.invariant.3) c.requires.strided, λ p on. ((c.keep-next.ensures.kept_now.0 p on).sum, (c.keep-next.ensures.kept_now.0 p on).looks), c.loop-u.invariant.0.rests) }
+    record { shaped = (c.requires.shaped.0, omega (arith, c.loop-u-test.true, c.requires.shaped.2), c.loop-u.invariant.0.small, omega (arith, c.loop-u.invariant.1, c.fill.ensures.inside.long, c.requires.shaped.4), omega (arith, c.loop-u.invariant.2.long, c.requires.shaped.5), c.requires.shaped.6, c.loop-u.invariant.0.low); strided = (strided_same (c.keep-next.ensures.steps_len_unchanged ∙ c.loop-u.invariant.3) c.requires.strided, λ p on. ((c.keep-next.ensures.kept_now.0 p on).sum, (c.keep-next.ensures.kept_now.0 p on).looks)) }
 
 pub overflow_add-m-then-instant : goal.overflow_add-m-then-instant
 overflow_add-m-then-instant c = omega (arith, c.requires.shaped.5, c.requires.shaped.6)
@@ -44,7 +44,7 @@ loop-u-smaller c = omega (arith, c.keep-next.ensures.kept_now.1.later, c.loop-u-
 
 pub loop-u-preserved : goal.loop-u-preserved
 loop-u-preserved c =
-    (tried_next c.args.e.now c.args.m c.args.from c.args.end c.args.best.now c.loop-u.slots c.loop-u.best c.loop-u.u c.loop-u.invariant.0 c.loop-u-test.true c.instant.new.slots c.instant.new.best c.instant.result c.instant.ensures.instant_is c.if-instant.false c.instant.ensures.small.0 c.instant.ensures.low_to.0 (c.instant.ensures.resting c.if-instant.false) c.requires.shaped.0.looks c.keep-next.result c.keep-next.ensures.kept_now.1, c.instant.ensures.small.1 ∙ c.loop-u.invariant.1, inside-twice c.loop-u.invariant.2 c.instant.ensures.low_to.1, c.keep-next.ensures.steps_len_unchanged ∙ c.loop-u.invariant.3, λ h. kept_on c.args.e.now c.args.stride c.args.end c.loop-u.u c.args.m c.keep-next.result c.keep-next.new.steps c.keep-next.ensures.kept_now.0 c.keep-next.ensures.kept_now.1)
+    (tried_next c.args.e.now c.args.m c.args.from c.args.end c.args.best.now c.loop-u.slots c.loop-u.best c.loop-u.u c.loop-u.invariant.0 c.loop-u-test.true c.instant.new.slots c.instant.new.best c.instant.result c.instant.ensures.instant_is c.if-instant.false c.instant.ensures.small.0 c.instant.ensures.low_to.0 c.requires.shaped.0.looks c.keep-next.result c.keep-next.ensures.kept_now.1, c.instant.ensures.small.1 ∙ c.loop-u.invariant.1, inside-twice c.loop-u.invariant.2 c.instant.ensures.low_to.1, c.keep-next.ensures.steps_len_unchanged ∙ c.loop-u.invariant.3, λ h. kept_on c.args.e.now c.args.stride c.args.end c.loop-u.u c.args.m c.keep-next.result c.keep-next.new.steps c.keep-next.ensures.kept_now.0 c.keep-next.ensures.kept_now.1)
 
 pub shape_of-slots : goal.shape_of-slots
 shape_of-slots c = c.loop-u.invariant.1 ∙ c.fill.ensures.inside.long
