@@ -95,10 +95,8 @@ fn sum_looking(e: &[u64], v: &[u64], p: usize, kept: u64) -> u64
     let at = block_at(e, p);
     let n = e[at + 2] as usize;
     let mut sum = kept;
-    let mut q: usize = 0;
-    while q < n {
+    for q in 0..n {
         sum = add_look(e, v, at + HEAD + q * ENTRY, sum);
-        q += 1;
     }
     sum
 }

@@ -2,17 +2,16 @@
 // After P the table is the one that the written plan gives when it is read and judged.
 #![tactic(auto)]
 
-ghost use Rattle.std.specs.Prelude.{◌<◌, ◌≤◌, length};
+ghost use Rattle.std.specs.Prelude.{◌≤◌, length};
 
-use flows::{Answer, Table, Written};
+use flows::{Answer, Table};
 use plan::FlowSet;
 use std::io;
 use std::io::{Read, Write};
 
-// What is kept between calls, and whether there are more.
+// What is kept between calls.
 #[derive(Clone, Copy)]
 struct Kept {
-    more: bool,
     table: Table,
     set: FlowSet,
 }
@@ -22,60 +21,78 @@ fn fill<R: Read>(input: &mut R, memory: &mut [u8]) -> io::Result<bool> {
     Ok(show::read_full(input, memory)? == memory.len())
 }
 
-// Of an unknown call, one that the input's end cuts short, or a buffer longer than any that is lent.
-fn stop<W: Write>(out: &mut W, mut kept: Kept) -> io::Result<Kept> {
+// Of an unknown call, one that the input's end cuts short, or a buffer longer than any that is lent: no call is read after it.
+fn stop<W: Write>(out: &mut W) -> io::Result<Option<Kept>> {
     show::put(out, b"bad call\n")?;
-    kept.more = false;
-    Ok(kept)
+    Ok(None)
 }
 
-fn tell<W: Write>(out: &mut W, mut kept: Kept, answer: Answer, done: &[u8]) -> io::Result<Kept> {
+fn tell<W: Write>(
+    out: &mut W,
+    mut kept: Kept,
+    answer: Answer,
+    done: &[u8],
+) -> io::Result<Option<Kept>> {
     show::print_done(out, answer, done)?;
     kept.table = answer.table;
-    Ok(kept)
+    Ok(Some(kept))
 }
 
-fn make_table<R: Read, W: Write>(input: &mut R, out: &mut W, kept: Kept) -> io::Result<Kept> {
+fn make_table<R: Read, W: Write>(
+    input: &mut R,
+    out: &mut W,
+    kept: Kept,
+) -> io::Result<Option<Kept>> {
     let mut body = [0u8; 4];
     if !fill(input, &mut body)? {
-        return stop(out, kept);
+        return stop(out);
     }
     let links = records::read_links(&body);
     tell(out, kept, table::fresh(links.lmin, links.lmax), b"fresh\n")
 }
 
-fn admit_flow<R: Read, W: Write>(input: &mut R, out: &mut W, kept: Kept) -> io::Result<Kept> {
+fn admit_flow<R: Read, W: Write>(
+    input: &mut R,
+    out: &mut W,
+    kept: Kept,
+) -> io::Result<Option<Kept>> {
     let mut body = [0u8; 33];
     if !fill(input, &mut body)? {
-        return stop(out, kept);
+        return stop(out);
     }
     let f = records::read_flow(&body);
-    let t = kept.table;
-    tell(out, kept, table::admit(t, f), b"admitted\n")
+    tell(out, kept, table::admit(kept.table, f), b"admitted\n")
 }
 
-fn withdraw_flow<R: Read, W: Write>(input: &mut R, out: &mut W, kept: Kept) -> io::Result<Kept> {
+fn withdraw_flow<R: Read, W: Write>(
+    input: &mut R,
+    out: &mut W,
+    kept: Kept,
+) -> io::Result<Option<Kept>> {
     let mut body = [0u8; 1];
     if !fill(input, &mut body)? {
-        return stop(out, kept);
+        return stop(out);
     }
-    let t = kept.table;
-    tell(out, kept, table::withdraw(t, body[0]), b"withdrawn\n")
+    tell(
+        out,
+        kept,
+        table::withdraw(kept.table, body[0]),
+        b"withdrawn\n",
+    )
 }
 
-fn ask_flow<R: Read, W: Write>(input: &mut R, out: &mut W, kept: Kept) -> io::Result<Kept> {
+fn ask_flow<R: Read, W: Write>(input: &mut R, out: &mut W, kept: Kept) -> io::Result<Option<Kept>> {
     let mut body = [0u8; 1];
     if !fill(input, &mut body)? {
-        return stop(out, kept);
+        return stop(out);
     }
     let number = body[0];
-    let t = kept.table;
-    show::print_asked(out, number, table::ask(t, number))?;
-    Ok(kept)
+    show::print_asked(out, number, table::ask(kept.table, number))?;
+    Ok(Some(kept))
 }
 
 // Prints the first n bytes, and goes on with the table of the plan in them.
-fn read_table<W: Write>(out: &mut W, kept: Kept, bytes: &[u8], n: usize) -> io::Result<Kept>
+fn read_table<W: Write>(out: &mut W, kept: Kept, bytes: &[u8], n: usize) -> io::Result<Option<Kept>>
     requires { n ≤ length bytes.now }
 {
     show::print_bytes(out, bytes, n)?;
@@ -83,128 +100,104 @@ fn read_table<W: Write>(out: &mut W, kept: Kept, bytes: &[u8], n: usize) -> io::
 }
 
 // 550 bytes hold any table.
-fn write_table<W: Write>(out: &mut W, kept: Kept) -> io::Result<Kept> {
+fn write_table<W: Write>(out: &mut W, kept: Kept) -> io::Result<Option<Kept>> {
     let mut buffer = [0u8; 550];
-    let t = kept.table;
-    let written = plans::write_plan(&mut buffer, t);
-    match written {
-        Written::Length(n) => read_table(out, kept, &buffer, n),
-        Written::Refused(r) => {
+    match plans::write_plan(&mut buffer, kept.table) {
+        Ok(n) => read_table(out, kept, &buffer, n),
+        Err(r) => {
             show::print_refusal(out, r)?;
-            Ok(kept)
+            Ok(Some(kept))
         }
     }
 }
 
-fn join(high: u8, low: u8) -> usize
-    ensures { result < 65536 }
-{
-    (high as usize) * 256 + (low as usize)
-}
-
-fn lend_buffer<R: Read, W: Write>(input: &mut R, out: &mut W, kept: Kept) -> io::Result<Kept> {
-    let mut body = [0u8; 2];
-    if !fill(input, &mut body)? {
-        return stop(out, kept);
-    }
-    let n = join(body[0], body[1]);
-    if n > show::LENT {
-        return stop(out, kept);
-    }
-    let t = kept.table;
-    show::print_lent(out, t, n)?;
-    Ok(kept)
-}
-
-// Reads as many bytes as this memory has: a report, which is shown, or a plan, of which the set is kept.
-fn read_bytes<R: Read, W: Write>(
-    input: &mut R,
-    out: &mut W,
-    mut kept: Kept,
-    bytes: &mut [u8],
-    report: bool,
-) -> io::Result<Kept> {
-    if !fill(input, bytes)? {
-        return stop(out, kept);
-    }
-    if report {
-        show::print_report(out, bytes)?;
-        return Ok(kept);
-    }
-    let reading = plan::read(bytes);
-    show::print_reading(out, reading)?;
-    let set = reading.set;
-    kept.set = set;
-    Ok(kept)
-}
-
-fn load<R: Read, W: Write>(
+fn lend_buffer<R: Read, W: Write>(
     input: &mut R,
     out: &mut W,
     kept: Kept,
-    report: bool,
-) -> io::Result<Kept> {
+) -> io::Result<Option<Kept>> {
     let mut body = [0u8; 2];
     if !fill(input, &mut body)? {
-        return stop(out, kept);
+        return stop(out);
     }
-    let n = join(body[0], body[1]);
-    let mut buffer = [0u8; 65536];
-    read_bytes(input, out, kept, &mut buffer[0..n], report)
+    let n = usize::from(u16::from_be_bytes(body));
+    if n > show::LENT {
+        return stop(out);
+    }
+    show::print_lent(out, kept.table, n)?;
+    Ok(Some(kept))
 }
 
-fn judge_set<W: Write>(out: &mut W, kept: Kept) -> io::Result<Kept> {
-    let set = kept.set;
-    tell(out, kept, plans::judge_set(set), b"judged\n")
+fn load_set<R: Read, W: Write>(
+    input: &mut R,
+    out: &mut W,
+    mut kept: Kept,
+) -> io::Result<Option<Kept>> {
+    let mut buffer = [0u8; show::FRAME];
+    let Some(plan) = show::read_frame(input, &mut buffer)? else {
+        return stop(out);
+    };
+    let reading = plan::read(plan);
+    show::print_reading(out, reading)?;
+    kept.set = reading.set;
+    Ok(Some(kept))
 }
 
-// T, S and R, which change nothing.
-fn print_kept<W: Write>(out: &mut W, kind: u8, kept: Kept) -> io::Result<Kept> {
-    let t = kept.table;
-    let set = kept.set;
+fn show_report<R: Read, W: Write>(
+    input: &mut R,
+    out: &mut W,
+    kept: Kept,
+) -> io::Result<Option<Kept>> {
+    let mut buffer = [0u8; show::FRAME];
+    let Some(report) = show::read_frame(input, &mut buffer)? else {
+        return stop(out);
+    };
+    show::print_report(out, report)?;
+    Ok(Some(kept))
+}
+
+fn call<R: Read, W: Write>(
+    input: &mut R,
+    out: &mut W,
+    kind: u8,
+    kept: Kept,
+) -> io::Result<Option<Kept>> {
     match kind {
-        b'T' => show::print_table(out, t)?,
-        b'S' => show::print_set(out, set)?,
-        _ => show::print_table_report(out, t)?,
+        b'A' => return admit_flow(input, out, kept),
+        b'W' => return withdraw_flow(input, out, kept),
+        b'Q' => return ask_flow(input, out, kept),
+        b'T' => show::print_table(out, kept.table)?,
+        b'S' => show::print_set(out, kept.set)?,
+        b'R' => show::print_table_report(out, kept.table)?,
+        b'P' => return write_table(out, kept),
+        b'B' => return lend_buffer(input, out, kept),
+        b'L' => return load_set(input, out, kept),
+        b'J' => return tell(out, kept, plans::judge_set(kept.set), b"judged\n"),
+        b'F' => return show_report(input, out, kept),
+        b'N' => return make_table(input, out, kept),
+        _ => return stop(out),
     }
-    Ok(kept)
+    Ok(Some(kept))
 }
 
-fn call<R: Read, W: Write>(input: &mut R, out: &mut W, kind: u8, kept: Kept) -> io::Result<Kept> {
-    match kind {
-        b'A' => admit_flow(input, out, kept),
-        b'W' => withdraw_flow(input, out, kept),
-        b'Q' => ask_flow(input, out, kept),
-        b'T' | b'S' | b'R' => print_kept(out, kind, kept),
-        b'P' => write_table(out, kept),
-        b'B' => lend_buffer(input, out, kept),
-        b'L' => load(input, out, kept, false),
-        b'J' => judge_set(out, kept),
-        b'F' => load(input, out, kept, true),
-        b'N' => make_table(input, out, kept),
-        _ => stop(out, kept),
-    }
-}
-
-fn next_call<R: Read, W: Write>(input: &mut R, out: &mut W, mut kept: Kept) -> io::Result<Kept> {
+// What is kept after the next call; none if there is none.
+fn next_call<R: Read, W: Write>(
+    input: &mut R,
+    out: &mut W,
+    kept: Kept,
+) -> io::Result<Option<Kept>> {
     let mut kind = [0u8; 1];
     if !fill(input, &mut kind)? {
-        kept.more = false;
-        return Ok(kept);
+        return Ok(None);
     }
     call(input, out, kind[0], kept)
 }
 
 // The set is the empty one that goes with a refused reading, here of no bytes.
 fn begin() -> Kept {
-    let fresh = table::fresh(0, 0);
-    let table = fresh.table;
-    let reading = plan::read(b"");
-    let set = reading.set;
     Kept {
-        more: true,
-        table,
-        set,
+        table: table::fresh(0, 0).table,
+        set: plan::read(b"").set,
     }
 }
 
@@ -214,10 +207,10 @@ fn main(rt: HostRuntime) -> io::Result<()> {
     let mut out = rt.stdout();
     let mut kept = make_table(&mut input, &mut out, begin())?;
     for _ in 0..u64::MAX {
-        if !kept.more {
+        let Some(now) = kept else {
             break;
-        }
-        kept = next_call(&mut input, &mut out, kept)?;
+        };
+        kept = next_call(&mut input, &mut out, now)?;
     }
     Ok(())
 }

@@ -4,6 +4,8 @@ use Rattle.std.specs.Prelude.{◌≡◌, Bool, List, ℕ, ◌+◌, ◌*◌, ◌�
 use Rattle.least.specs.Count.{pick}
 use Rattle.least.specs.Lists.{values, First}
 use Rattle.rules.specs.Formula.{Role, Own, Higher, Equal, Lower, role, both, higher_or_equal, first_on}
+use Rattle.crossings.specs.declared.Role as declared
+use Rattle.crossings.specs.declared.Role.TheVariants as code
 use Rattle.nets.specs.Nets.{Whole, count_in, room_in, length_in, hop_in, path_in, flow_in, no_hop, position_of}
 
 -- the place on b's path of the node at place k of a's; as many as b has nodes, if it does not pass there
@@ -13,6 +15,13 @@ place_on net a b k = position_of (hop_in net a k).node (path_in net b)
 -- b's cost there; 0 if it does not pass
 unfoldable pub cost_on : List ℕ → ℕ → ℕ → ℕ → ℕ
 cost_on net a b k = (get_or (path_in net b) (place_on net a b k) no_hop).cost
+
+-- what b is to a: of the code's enum the rules' word, and the number in the bytes
+abbrev pub role_of : declared.Role → Role
+role_of code.Own = Own
+role_of code.Higher = Higher
+role_of code.Equal = Equal
+role_of code.Lower = Lower
 
 abbrev pub side_number : Role → ℕ
 side_number Own = 0

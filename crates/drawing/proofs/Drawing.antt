@@ -1,11 +1,10 @@
 -- A flow as numbers, and a row as the numbers of its network. Assumes nothing.
-use mathlib.Core.Path.{◌≡◌, refl, sym, ap, ◌∙◌, subst}
+use mathlib.Core.Path.{◌≡◌, refl, sym, ap, ◌∙◌}
 use mathlib.Core.List.{List, [], ◌∷◌, map}
 use Prim.Native.Nat.{ℕ, zero, suc, ◌+◌, ◌*◌, ◌≤◌, ◌<◌}
 use native.Mathlib.Omega.{arith}
 use lib.ListN.{length, get_or, set, length-take, length-map, length-set, get_or-map}
 use lib.Seq.{get_or-set_same, get_or-set_other, ext_get_or}
-use borrow.Author.Count.{below_more}
 use Rattle.least.specs.Lists.{values}
 use Rattle.flows.specs.declared.Flow.{Flow}
 use Rattle.flows.specs.declared.Row.{Row}
@@ -52,64 +51,6 @@ pub record PathTo (f : Flow) (at : ℕ) (net net' : List ℕ) (k : ℕ) : Type 0
   pub node : (j : ℕ) → j < k → values net' (at + (6 + 2 * j)) ≡ get_or f.nodes j 0
   pub cost : (j : ℕ) → j < k → values net' (at + (7 + 2 * j)) ≡ get_or f.costs j 0
   pub long : length net' ≡ length net
-
-module _ (f : Flow) (at : ℕ) (net : List ℕ) where
-  pub path_none : PathTo f at net net 0
-  path_none = record { kept = λ j h. refl; node = λ j h. absurd (omega arith); cost = λ j h. absurd (omega arith); long = refl }
-
-  pub path_more : (net' : List ℕ) (k p q : ℕ) → PathTo f at net net' k → p ≡ at + (6 + 2 * k) → q ≡ at + (7 + 2 * k) → q < length net' →
-      PathTo f at net (set (set net' p (get_or f.nodes k 0)) q (get_or f.costs k 0)) (k + 1)
-  path_more net' k p q i a b fit = record {
-    kept = λ j h. under j (omega arith) ∙ i.kept j h;
-    node = below_more (λ j. values both (at + (6 + 2 * j)) ≡ get_or f.nodes j 0) k
-        (λ j h. under (at + (6 + 2 * j)) (omega arith) ∙ i.node j h)
-        (ap (values both) (sym a) ∙ keeps mid q p y (omega arith) ∙ get_or-set_same net' p x 0 (omega arith));
-    cost = below_more (λ j. values both (at + (7 + 2 * j)) ≡ get_or f.costs j 0) k
-        (λ j h. under (at + (7 + 2 * j)) (omega arith) ∙ i.cost j h)
-        (ap (values both) (sym b) ∙ get_or-set_same mid q y 0 (omega (arith, length-set net' p x)));
-    long = length-set mid q y ∙ length-set net' p x ∙ i.long;
-  }
-    where
-      x : ℕ
-      x = get_or f.nodes k 0
-
-      y : ℕ
-      y = get_or f.costs k 0
-
-      mid : List ℕ
-      mid = set net' p x
-
-      both : List ℕ
-      both = set mid q y
-
-      under : (j : ℕ) → j < p → values both j ≡ values net' j
-      under j h = keeps mid q j y (omega arith) ∙ keeps net' p j x h
-
--- six fields, then the path
-pub draw_end : (f : Flow) (at : ℕ) (net net' : List ℕ) (k : ℕ) → at + 22 ≤ length net → most_nodes ≤ k →
-    PathTo f at (stored (f.priority ∷ f.period ∷ f.jitter ∷ f.deadline ∷ f.length ∷ []) at 1 (set net at f.number)) net' k → DrawnAt f at net net'
-draw_end f at net net' k fit all i = record {
-  number = i.kept at (omega arith) ∙ stored-before rest at 1 first at (omega arith) ∙ get_or-set_same net at f.number 0 (omega arith);
-  priority = field 0 (omega arith);
-  period = field 1 (omega arith);
-  jitter = field 2 (omega arith);
-  deadline = field 3 (omega arith);
-  path = field 4 (omega arith);
-  node = λ j h. i.node j (omega arith);
-  cost = λ j h. i.cost j (omega arith);
-  before = λ j h. i.kept j (omega arith) ∙ stored-before rest at 1 first j (omega arith) ∙ keeps net at j f.number h;
-  long = i.long ∙ stored_long rest at 1 first ∙ length-set net at f.number;
-}
-  where
-    rest : List ℕ
-    rest = f.priority ∷ f.period ∷ f.jitter ∷ f.deadline ∷ f.length ∷ []
-
-    first : List ℕ
-    first = set net at f.number
-
-    field : (j : ℕ) → j < 5 → values net' (at + (1 + j)) ≡ values rest j
-    field j h =
-        i.kept (at + (1 + j)) (omega arith) ∙ stored_at rest at 1 first j (at + (1 + j)) refl h (omega (arith, length-set net at f.number))
 
 -- a flow as it stands at a place
 pub record Stands (f : Flow) (at : ℕ) (net : List ℕ) : Type 0 where
@@ -198,31 +139,12 @@ module _ (n lmin lmax : ℕ) (net : List ℕ) where
   headed-at k h fit = stored_at (n ∷ most_nodes ∷ lmin ∷ lmax ∷ []) 0 0 net k k (omega arith) h fit
 
 module _ (row : Row) where
-  pub picture_none : (net : List ℕ) → length net ≡ 356 → Pictured row 0 net
-  picture_none net long = record { flows = λ b h. absurd (omega arith); long = long }
-
-  pub picture_more : (a : ℕ) (net net' : List ℕ) (f : Flow) → Pictured row a net → f ≡ placed row a → length f.nodes ≡ most_nodes → length f.costs ≡ most_nodes →
-      DrawnAt f (4 + a * 22) net net' → Pictured row (a + 1) net'
-  picture_more a net net' f i e nodes costs d = record {
-    flows = below_more (λ b. Stands (placed row b) (4 + b * 22) net') a
-        (λ b h. still_stands (placed row b) (4 + b * 22) net net' (i.flows b h) (λ k l m. d.before k (omega arith)))
-        (subst (λ g. Stands g (4 + a * 22) net') e (record { drawn = still_drawn f (4 + a * 22) net net' net' d (λ k l m. refl); nodes = nodes; costs = costs }));
-    long = d.long ∙ i.long;
-  }
-
   module _ (lmin lmax a n : ℕ) (net : List ℕ) (i : Pictured row a net) (size : n ≡ length (held row)) (few : n ≤ most_flows) where
     picture-count : count_in (headed n lmin lmax net) ≡ length (held row)
     picture-count = omega (arith, headed-at n lmin lmax net 0 (omega arith) (omega (arith, i.long)))
 
     picture-room : room_in (headed n lmin lmax net) ≡ most_nodes
     picture-room = omega (arith, headed-at n lmin lmax net 1 (omega arith) (omega (arith, i.long)))
-
-    picture-whole : Whole (headed n lmin lmax net)
-    picture-whole = subst (λ w. 4 + count_in (headed n lmin lmax net) * (6 + 2 * w) ≤ length (headed n lmin lmax net)) (sym picture-room)
-        (omega (arith, picture-count, stored_long (n ∷ most_nodes ∷ lmin ∷ lmax ∷ []) 0 0 net, i.long))
-
-    pub picture_shape : let full = headed n lmin lmax net in (count_in full ≡ length (held row)) × (count_in full ≤ most_flows) × (room_in full ≡ most_nodes) × Whole full
-    picture_shape = (picture-count, omega (arith, picture-count), picture-room, picture-whole)
 
     pub picture_end : n ≤ a → net_in (headed n lmin lmax net) ≡ net_of lmin lmax row
     picture_end all = λ x. record {

@@ -13,17 +13,15 @@ fn draw(net: &mut [u16], f: Flow, at: usize)
     requires { (at ≤ 1000) × (at + 22 ≤ length net.old) }
     ensures { DrawnAt f at net.old net.new }
 {
-    net[at] = f.number as u16;
-    net[at + 1] = f.priority as u16;
+    net[at] = u16::from(f.number);
+    net[at + 1] = u16::from(f.priority);
     net[at + 2] = f.period;
     net[at + 3] = f.jitter;
     net[at + 4] = f.deadline;
-    net[at + 5] = f.length as u16;
-    let mut k: usize = 0;
-    while k < NODES {
-        net[at + 6 + 2 * k] = f.nodes[k] as u16;
+    net[at + 5] = u16::from(f.length);
+    for k in 0..NODES {
+        net[at + 6 + 2 * k] = u16::from(f.nodes[k]);
         net[at + 7 + 2 * k] = f.costs[k];
-        k += 1;
     }
 }
 
@@ -34,10 +32,8 @@ pub fn picture(net: &mut [u16], row: Row, lmin: u16, lmax: u16)
     ensures shape { (count_in net.new ≡ length (held row)) × (count_in net.new ≤ 16) × (room_in net.new ≡ 8) × Whole net.new }
 {
     let n = row::size(row);
-    let mut a: usize = 0;
-    while a < n {
+    for a in 0..n {
         draw(net, row::flow_at(row, a), 4 + a * 22);
-        a += 1;
     }
     net[0] = n as u16;
     net[1] = NODES as u16;

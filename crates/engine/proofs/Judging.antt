@@ -22,38 +22,41 @@ use Rattle.rules.specs.Judge.{busy_length, response, figures, misplaced, first_o
 use Rattle.rules.specs.Ready.{Ready}
 use Rattle.rules.proofs.Valid.{sound}
 use Rattle.rules.proofs.Judge.{settles_by, settles_is, settles_unique, judged_is, judged_unique}
+use Rattle.std.specs.Prelude.{Option, Some, None, Result, Ok, Err}
 use Rattle.flows.specs.declared.Figures.{Figures}
 use Rattle.flows.specs.declared.Row.{Row}
-use Rattle.flows.specs.declared.Cause.TheVariants.{Accepted, Crossing, NoBusyLength, Unsettled, PastDeadline}
+use Rattle.flows.specs.declared.Cause.TheVariants.{Crossing, NoBusyLength, Unsettled, PastDeadline}
 use Rattle.flows.specs.Lists.{most_flows, most_nodes, flow_of, held, net_of}
 use Rattle.row.specs.Rows.{placed}
 use Rattle.nets.specs.Nets.{count_in, room_in, flow_in, net_in, no_hop, no_flow, flow_at}
 use Rattle.nets.proofs.Reading.{flows_length, flow_at_lem}
 use Rattle.nets.proofs.Places.{member_at}
 use Rattle.drawing.proofs.Drawing.{at_place}
+use Rattle.starts.specs.declared.PastHorizon.{PastHorizon}
 use Rattle.ascent.specs.Good.{arrivals_in, Rests}
-use Rattle.engine.specs.declared.Verdict.{Verdict}
-use Rattle.engine.specs.Verdicts.{no_figures, as_figures, cause_of, refused, given, verdict_from, verdict_of, Meant}
-use Rattle.engine.specs.Firsts.{FiguresUpTo, deadline_at, bound_at, DeadlinesIs}
+use Rattle.engine.specs.Verdicts.{Verdict, no_figures, as_figures, cause_of, listed, verdict_from, verdict_of, Meant}
+use Rattle.engine.specs.Firsts.{FiguresUpTo, deadline_at, bound_at, verdict_late, DeadlinesIs}
 use Rattle.findings.specs.Findings.{FirstIs, crossed, overloaded, Clear, FirstAt, Heavy, Outcome}
 
--- the first flow at fault, by place
-first_or_lem : (p : rules.Flow → Bool) (f : ℕ → Judgement) (other : Judgement) (l : List rules.Flow) (d : rules.Flow) (q : ℕ → Bool) (r : ℕ) →
-    ((k : ℕ) → k < length l → q k ≡ p (get_or l k d)) → FirstIs q (length l) r →
-    ((r < length l → first_or p f l other ≡ f (get_or l r d).number) × (length l ≤ r → first_or p f l other ≡ other))
+-- what is said of the first flow at fault, by place
+abbrev said_of : (ℕ → Judgement) → Judgement → List rules.Flow → Option ℕ → Judgement
+said_of f other l None = other
+said_of f other l (Some k) = f (get_or l k no_flow).number
+
+first_or_lem : (p : rules.Flow → Bool) (f : ℕ → Judgement) (other : Judgement) (l : List rules.Flow) (q : ℕ → Bool) (r : Option ℕ) →
+    ((k : ℕ) → k < length l → q k ≡ p (get_or l k no_flow)) → FirstIs q (length l) r → first_or p f l other ≡ said_of f other l r
 unfolding first_or
-first_or_lem p f other [] d q r same i = (λ h. absurd (omega arith), λ h. refl)
-first_or_lem p f other (x ∷ l) d q zero same i =
-    (λ h. ap (λ b. elim b [ true ↦ f x.number | false ↦ first_or p f l other ]) (sym (same 0 (omega arith)) ∙ i.fails (omega arith)), λ h. absurd (omega arith))
-first_or_lem p f other (x ∷ l) d q (suc r) same i =
-    let rest = first_or_lem p f other l d (λ k. q (suc k)) r (λ k h. same (suc k) (omega arith)) (record {
-      most = omega (arith, i.most);
-      before = λ k h. i.before (suc k) (omega arith);
-      fails = λ h. i.fails (omega arith);
-    }) in
-    let step : first_or p f (x ∷ l) other ≡ first_or p f l other =
-    ap (λ b. elim b [ true ↦ f x.number | false ↦ first_or p f l other ]) (sym (same 0 (omega arith)) ∙ i.before 0 (omega arith)) in
-    (λ h. step ∙ rest.0 (omega arith), λ h. step ∙ rest.1 (omega arith))
+first_or_lem p f other [] q None same i = refl
+first_or_lem p f other [] q (Some k) same i = absurd (omega (arith, i.within))
+first_or_lem p f other (x ∷ l) q None same i =
+    ap (λ b. elim b [ true ↦ f x.number | false ↦ first_or p f l other ]) (sym (same 0 (omega arith)) ∙ i 0 (omega arith))
+    ∙ first_or_lem p f other l (λ k. q (suc k)) None (λ k h. same (suc k) (omega arith)) (λ k h. i (suc k) (omega arith))
+first_or_lem p f other (x ∷ l) q (Some zero) same i =
+    ap (λ b. elim b [ true ↦ f x.number | false ↦ first_or p f l other ]) (sym (same 0 (omega arith)) ∙ i.fails)
+first_or_lem p f other (x ∷ l) q (Some (suc r)) same i =
+    ap (λ b. elim b [ true ↦ f x.number | false ↦ first_or p f l other ]) (sym (same 0 (omega arith)) ∙ i.before 0 (omega arith))
+    ∙ first_or_lem p f other l (λ k. q (suc k)) (Some r) (λ k h. same (suc k) (omega arith))
+    (record { within = omega (arith, i.within); before = λ k h. i.before (suc k) (omega arith); fails = i.fails })
 
 -- a list padded to its size
 padded_in : {A B : Type 0} (f : A → B) (l : List A) (m : ℕ) (z : B) (d : A) (k : ℕ) → k < length l → get_or (map f l ++ replicate m z) k z ≡ f (get_or l k d)
@@ -93,38 +96,32 @@ module _ (net : List ℕ) where
     tested : (k : ℕ) → k < length N.flows → q k ≡ p (flow_at N k)
     tested k h = let b : k < count_in net = omega (arith, count) in same k b ∙ ap p (sym (flow_at_lem net k b))
 
-    first_fails : (r : ℕ) → FirstAt q (count_in net) r → first_or p f N.flows other ≡ f (flow_at N r).number
-    first_fails r i =
-        (first_or_lem p f other N.flows no_flow q r tested (subst (λ n. FirstIs q n r) (sym count) i.first)).0 (omega (arith, count, i.within))
-
-    none_fails : Clear q (count_in net) → first_or p f N.flows other ≡ other
-    none_fails i =
-        (first_or_lem p f other N.flows no_flow q (length N.flows) tested
-        (record { most = omega arith; before = λ k h. i k (omega (arith, count)); fails = λ h. absurd (omega arith) })).1 (omega arith)
+    searched : (r : Option ℕ) → FirstIs q (count_in net) r → first_or p f N.flows other ≡ said_of f other N.flows r
+    searched r i = first_or_lem p f other N.flows q r tested (subst (λ n. FirstIs q n r) (sym count) i)
 
   -- 7
   crossing-judged : (k : ℕ) → FirstAt (crossed net) (count_in net) k → judged N ≡ Refused 7 (flow_at N k).number
   unfolding judged
-  crossing-judged k i = first_fails (misplaced N) (Refused 7) (load_judged N) (crossed net) (λ k h. refl) k i
+  crossing-judged k i = searched (misplaced N) (Refused 7) (load_judged N) (crossed net) (λ k h. refl) (Some k) i
 
   placed-judged : Clear (crossed net) (count_in net) → judged N ≡ load_judged N
   unfolding judged
-  placed-judged i = none_fails (misplaced N) (Refused 7) (load_judged N) (crossed net) (λ k h. refl) i
+  placed-judged i = searched (misplaced N) (Refused 7) (load_judged N) (crossed net) (λ k h. refl) None i
 
   module _ (val : Valid N) (busies : List ℕ) where
     -- 8
     overload-judged : (k : ℕ) → Heavy net busies k → load_judged N ≡ Refused 8 (flow_at N k).number
     unfolding load_judged horizon
     overload-judged k o =
-        first_fails (λ j. ltb horizon (busy_length N j)) (Refused 8) (settled_judged N) (overloaded busies) (λ a h. ap (ltb horizon) (o.busies_are val a h)) k o.heavy
+        searched (λ j. ltb horizon (busy_length N j)) (Refused 8) (settled_judged N) (overloaded busies) (λ a h. ap (ltb horizon) (o.busies_are val a h)) (Some k) o.heavy
 
-    module _ (past : Bool) (replies : List ℕ) (o : Outcome net busies past replies) where
+    module _ (given : Result (Unit {0}) PastHorizon) (replies : List ℕ) (o : Outcome net busies given replies) where
       busy_is : (a : ℕ) → a < count_in net → values busies a ≡ busy_length N (flow_at N a)
       busy_is a h = o.busies_are val a h ∙ ap (busy_length N) (sym (flow_at_lem net a h))
 
       light-judged : load_judged N ≡ settled_judged N
       unfolding load_judged horizon
-      light-judged = none_fails (λ j. ltb horizon (busy_length N j)) (Refused 8) (settled_judged N) (overloaded busies) (λ a h. ap (ltb horizon) (o.busies_are val a h)) o.light
+      light-judged = searched (λ j. ltb horizon (busy_length N j)) (Refused 8) (settled_judged N) (overloaded busies) (λ a h. ap (ltb horizon) (o.busies_are val a h)) None o.light
 
       ready : (j : rules.Flow) → Here N j → Ready N j
       unfolding horizon
@@ -137,23 +134,23 @@ module _ (net : List ℕ) where
           }
 
     -- 9
-    unsettled-judged : (replies : List ℕ) → Outcome net busies true replies → load_judged N ≡ Refused 9 0
+    unsettled-judged : (replies : List ℕ) → Outcome net busies (Err (record {})) replies → load_judged N ≡ Refused 9 0
     unsettled-judged replies o =
-        let r = ready true replies o in
-        light-judged true replies o
+        let r = ready (Err (record {})) replies o in
+        light-judged (Err (record {})) replies o
         ∙ settles_unique N val (settled_judged N) (Refused 9 0) (settles_is N val r) (unsettled (o.settled.outcome val r (o.busies_are val)))
 
-    module _ (replies : List ℕ) (o : Outcome net busies false replies) where
+    module _ (replies : List ℕ) (o : Outcome net busies (Ok tt) replies) where
       rests : Rests N (room_in net) replies
-      rests = o.settled.outcome val (ready false replies o) (o.busies_are val)
+      rests = o.settled.outcome val (ready (Ok tt) replies o) (o.busies_are val)
 
       abbrev S : Arrivals
       S = arrivals_in N (room_in net) replies
 
       settled-judged : load_judged N ≡ first_or (λ j. ltb j.deadline (figures N S j).bound) (Refused 10) N.flows (Given (map (figures N S) N.flows))
       settled-judged =
-          let r = ready false replies o in
-          light-judged false replies o ∙ settles_unique N val _ _ (settles_is N val r) (settles_by N S val r rests.least)
+          let r = ready (Ok tt) replies o in
+          light-judged (Ok tt) replies o ∙ settles_unique N val _ _ (settles_is N val r) (settles_by N S val r rests.least)
 
       -- the response bound at the last node
       bound-at : (k : ℕ) → k < count_in net →
@@ -184,23 +181,23 @@ module _ (lmin lmax : ℕ) (row : Row) (val : Valid (net_of lmin lmax row)) (net
     unfolding verdict_of
     judged_as j e q = q ∙ ap verdict_from (sym e) ∙ ap (λ N. verdict_from (judged N)) is
 
-    pub crossing_said : (k : ℕ) → FirstAt (crossed net) (count_in net) k → v ≡ refused (Crossing (placed row k).number) → v ≡ verdict_of lmin lmax row
+    pub crossing_said : (k : ℕ) → FirstAt (crossed net) (count_in net) k → v ≡ Err (Crossing (placed row k).number) → v ≡ verdict_of lmin lmax row
     unfolding verdict_from cause_of
     crossing_said k i e =
-        judged_as (Refused 7 (flow_at (net_in net) k).number) (crossing-judged net k i) (e ∙ ap (λ f. refused (Crossing f.number)) (sym (flow-of k)))
+        judged_as (Refused 7 (flow_at (net_in net) k).number) (crossing-judged net k i) (e ∙ ap (λ f. let w : Verdict = Err (Crossing f.number) in w) (sym (flow-of k)))
 
     module _ (clear : Clear (crossed net) (count_in net)) (busies : List ℕ) where
-      pub overload_said : (k : ℕ) → Heavy net busies k → v ≡ refused (NoBusyLength (placed row k).number) → v ≡ verdict_of lmin lmax row
+      pub overload_said : (k : ℕ) → Heavy net busies k → v ≡ Err (NoBusyLength (placed row k).number) → v ≡ verdict_of lmin lmax row
       unfolding verdict_from cause_of
       overload_said k o e =
           judged_as (Refused 8 (flow_at (net_in net) k).number) (placed-judged net clear ∙ overload-judged net valid busies k o)
-          (e ∙ ap (λ f. refused (NoBusyLength f.number)) (sym (flow-of k)))
+          (e ∙ ap (λ f. let w : Verdict = Err (NoBusyLength f.number) in w) (sym (flow-of k)))
 
-      pub unsettled_said : (replies : List ℕ) → Outcome net busies true replies → v ≡ refused Unsettled → v ≡ verdict_of lmin lmax row
+      pub unsettled_said : (replies : List ℕ) → Outcome net busies (Err (record {})) replies → v ≡ Err Unsettled → v ≡ verdict_of lmin lmax row
       unfolding verdict_from cause_of
       unsettled_said replies o e = judged_as (Refused 9 0) (placed-judged net clear ∙ unsettled-judged net valid busies replies o) e
 
-  module _ (busies replies : List ℕ) (o : Outcome net busies false replies) (few : count_in net ≤ most_flows) (room : room_in net ≡ most_nodes)
+  module _ (busies replies : List ℕ) (o : Outcome net busies (Ok tt) replies) (few : count_in net ≤ most_flows) (room : room_in net ≡ most_nodes)
       (table : List Figures) (tally : FiguresUpTo row lmin replies busies (length (held row)) table) where
     abbrev M : Net
     M = net_in net
@@ -219,7 +216,7 @@ module _ (lmin lmax : ℕ) (row : Row) (val : Valid (net_of lmin lmax row)) (net
         ∙ ap (λ f. by most_nodes lmin f) (sym (flow-of k))
         ∙ ap₂ (λ w l. by w l (flow_at M k)) (sym room) (sym (ap (λ N. N.lmin) is))
         ∙ ap₂ (λ b c. let g : Figures = record { bound = b; jitter = b - (sum_of least (flow_at M k).path + (length (flow_at M k).path - 1) * M.lmin); busy = c } in g)
-        (bound-at net valid busies replies o k here) (busy_is net valid busies false replies o k here)
+        (bound-at net valid busies replies o k here) (busy_is net valid busies (Ok tt) replies o k here)
       where
         here : k < count_in net
         here = omega (arith, flows_length net)
@@ -262,20 +259,16 @@ module _ (lmin lmax : ℕ) (row : Row) (val : Valid (net_of lmin lmax row)) (net
 
     -- 10, or accepted
     pub figures_said : Clear (crossed net) (count_in net) → (v : Verdict) → DeadlinesIs row table v → v ≡ verdict_of lmin lmax row
-    unfolding verdict_from cause_of given given_list
-    figures_said clear v d = elim (le_or-lt (length (held row)) d.at) [
-      | inl h ↦ judged_as v (Given (map (figures M R) M.flows)) (whole ∙ late.1 (omega (arith, in_row)))
-          (d.timely h ∙ ap (λ t. let w : Verdict = record { cause = Accepted; figures = t } in w) all-figures)
-      | inr h ↦ judged_as v (Refused 10 (flow_at M d.at).number) (whole ∙ late.0 (omega (arith, in_row)))
-          (d.late h ∙ ap (λ f. refused (PastDeadline f.number)) (sym (flow-of d.at)))
-    ]
+    unfolding verdict_from cause_of listed given_list
+    figures_said clear v d =
+        judged_as v (said_of (Refused 10) (Given (map (figures M R) M.flows)) M.flows d.late)
+        (placed-judged net clear
+        ∙ settled-judged net valid busies replies o
+        ∙ first_or_lem (λ j. ltb j.deadline (figures M R j).bound) (Refused 10) (Given (map (figures M R) M.flows)) M.flows (λ k. ltb (deadline_at row k) (bound_at table k)) d.late
+        (λ k h. ap₂ (λ a b. ltb a b) (ap (λ f. f.deadline) (sym (flow-of k))) (ap (λ g. g.bound) (figures-at k h)))
+        (subst (λ m. FirstIs (λ k. ltb (deadline_at row k) (bound_at table k)) m d.late) (sym in_row) d.first))
+        (d.said ∙ said d.late)
       where
-        whole : judged M ≡ first_or (λ j. ltb j.deadline (figures M R j).bound) (Refused 10) M.flows (Given (map (figures M R) M.flows))
-        whole = placed-judged net clear ∙ settled-judged net valid busies replies o
-
-        late : ((d.at < length M.flows → first_or (λ j. ltb j.deadline (figures M R j).bound) (Refused 10) M.flows (Given (map (figures M R) M.flows)) ≡ Refused 10 (flow_at M d.at).number) ×
-            (length M.flows ≤ d.at → first_or (λ j. ltb j.deadline (figures M R j).bound) (Refused 10) M.flows (Given (map (figures M R) M.flows)) ≡ Given (map (figures M R) M.flows)))
-        late = first_or_lem (λ j. ltb j.deadline (figures M R j).bound) (Refused 10) (Given (map (figures M R) M.flows)) M.flows no_flow
-            (λ k. ltb (deadline_at row k) (bound_at table k)) d.at
-            (λ k h. ap₂ (λ a b. ltb a b) (ap (λ f. f.deadline) (sym (flow-of k))) (ap (λ g. g.bound) (figures-at k h)))
-            (subst (λ m. FirstIs (λ k. ltb (deadline_at row k) (bound_at table k)) m d.at) (sym in_row) d.first)
+        said : (late : Option ℕ) → verdict_late row table late ≡ verdict_from (said_of (Refused 10) (Given (map (figures M R) M.flows)) M.flows late)
+        said None = ap (λ t. let w : Verdict = Ok t in w) all-figures
+        said (Some k) = ap (λ f. let w : Verdict = Err (PastDeadline f.number) in w) (sym (flow-of k))

@@ -3,7 +3,6 @@ use mathlib.Core.Path.{◌≡◌, refl, sym, ap, ◌∙◌, subst}
 use mathlib.Core.List.{List}
 use Prim.Native.Nat.{ℕ, zero, suc, ◌+◌, ◌-◌, ◌*◌, ◌≤◌, ◌<◌}
 use native.Mathlib.Omega.{arith}
-use native.Mathlib.Nat.{mul-le-mul}
 use lib.ListN.{length, get_or, set, drop, replicate, length-take, length-set, length-replicate}
 use lib.Seq.{get_or-set_same, get_or-set_other}
 use borrow.Author.Count.{below_more}
@@ -38,13 +37,6 @@ module _ (f : Flow) (n k : ℕ) (len : n ≡ length (path_of f)) (e acc : ℕ) (
   pub sum_end : n ≤ k → acc ≡ e
   unfolding sum_of
   sum_end h = omega (arith, ap (sum_of least) (drop_past (path_of f) k (omega arith)))
-
-pub product_small : (l m : ℕ) → l ≤ 8 → m < 65536 → l * m ≤ 524280
-product_small l m a b = omega (arith, mul-le-mul {n₁ = l} {m₁ = m} {n₂ = 8} {m₂ = 65535} a (omega arith))
-
-pub figure_made : (f : Flow) (lmin bound busy n l c j : ℕ) → n ≡ length (path_of f) → l ≡ n - 1 → c ≡ sum_of least (path_of f) → j ≡ bound - (c + l * lmin) →
-    record { bound = bound; jitter = j; busy = busy } ≡ figure_of f lmin bound busy
-figure_made f lmin bound busy n l c j p q s t = ap (λ i. let g : Figures = record { bound = bound; jitter = i; busy = busy } in g) (t ∙ rw (q, p, s))
 
 none_at : (n k : ℕ) → get_or (replicate n no_figures) k no_figures ≡ no_figures
 none_at zero k = refl

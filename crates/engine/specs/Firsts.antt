@@ -1,5 +1,5 @@
 -- The figures of each flow, and the first flow past its deadline, as loops find them.
-use Rattle.std.specs.Prelude.{◌≡◌, List, ℕ, ◌+◌, ◌-◌, ◌*◌, ◌≤◌, ◌<◌, length, get_or, ltb}
+use Rattle.std.specs.Prelude.{◌≡◌, List, ℕ, ◌+◌, ◌-◌, ◌*◌, ◌≤◌, ◌<◌, length, get_or, ltb, Option, Some, None, Ok, Err}
 use Rattle.least.specs.Fold.{sum_of}
 use Rattle.rules.specs.Net.{Hop}
 use Rattle.rules.specs.Formula.{least}
@@ -9,10 +9,9 @@ use Rattle.flows.specs.declared.Row.{Row}
 use Rattle.flows.specs.Lists.{most_nodes, path_of, held}
 use Rattle.row.specs.Rows.{placed}
 use Rattle.least.specs.Lists.{values}
-use Rattle.flows.specs.declared.Cause.TheVariants.{Accepted, PastDeadline}
+use Rattle.flows.specs.declared.Cause.TheVariants.{PastDeadline}
 use Rattle.findings.specs.Findings.{FirstIs}
-use Rattle.engine.specs.declared.Verdict.{Verdict}
-use Rattle.engine.specs.Verdicts.{no_figures, refused}
+use Rattle.engine.specs.Verdicts.{no_figures, Verdict}
 
 -- the node and the cost at place k of the path
 abbrev pub hop_at : Flow → ℕ → Hop
@@ -38,9 +37,13 @@ deadline_at row k = (placed row k).deadline
 abbrev pub bound_at : List Figures → ℕ → ℕ
 bound_at figures k = (get_or figures k no_figures).bound
 
--- 10 for the first flow whose bound is past its deadline, or accepted with these figures
+-- 10 with the flow named, where one is past its deadline; or accepted with these figures
+abbrev pub verdict_late : Row → List Figures → Option ℕ → Verdict
+verdict_late row figures None = Ok figures
+verdict_late row figures (Some k) = Err (PastDeadline (placed row k).number)
+
+-- the verdict by the first flow whose bound is past its deadline, if one is
 pub record DeadlinesIs (row : Row) (figures : List Figures) (r : Verdict) : Type 0 where
-  pub at : ℕ
-  pub first : FirstIs (λ k. ltb (deadline_at row k) (bound_at figures k)) (length (held row)) at
-  pub late : at < length (held row) → r ≡ refused (PastDeadline (placed row at).number)
-  pub timely : length (held row) ≤ at → r ≡ record { cause = Accepted; figures = figures }
+  pub late : Option ℕ
+  pub first : FirstIs (λ k. ltb (deadline_at row k) (bound_at figures k)) (length (held row)) late
+  pub said : r ≡ verdict_late row figures late

@@ -9,7 +9,7 @@ ghost use Rattle.flows.specs.Lists.{most_nodes, path_of, held, net_of};
 ghost use Rattle.row.specs.Rows.{placed};
 ghost use Rattle.starts.specs.Runs.{most_time, Low, LowTo};
 ghost use Rattle.findings.specs.Findings.{FirstIs};
-ghost use Rattle.engine.specs.Verdicts.{no_figures, refused, verdict_of, Meant};
+ghost use Rattle.engine.specs.Verdicts.{verdict_of, Meant};
 ghost use Rattle.engine.specs.Firsts.{hop_at, figure_of, FiguresUpTo, deadline_at, bound_at, DeadlinesIs};
 
 use findings::Finding;
@@ -35,39 +35,18 @@ const STEPS: usize = 152;
 
 const BEST: usize = 16;
 
-// Accepted with the figures of each flow in the row's order; or the refusal, and figures of 0.
-#[derive(Clone, Copy)]
-pub struct Verdict {
-    pub cause: Cause,
-    pub figures: [Figures; FLOWS],
-}
-
-pub fn no_figures() -> Figures
-    ensures { result ≡ no_figures }
-{
-    Figures {
-        bound: 0,
-        jitter: 0,
-        busy: 0,
-    }
-}
-
-fn refuse(cause: Cause) -> Verdict
-    ensures { result ≡ refused cause }
-{
-    let none = no_figures();
-    Verdict {
-        cause,
-        figures: [none; FLOWS],
-    }
-}
+pub const NO_FIGURES: Figures = Figures {
+    bound: 0,
+    jitter: 0,
+    busy: 0,
+};
 
 fn cost_of(f: Flow, k: usize) -> u64
     requires { k < length (path_of f) }
     ensures value { result ≡ least (hop_at f k) }
     ensures upper_bound { result ≤ 65535 }
 {
-    f.costs[k] as u64
+    u64::from(f.costs[k])
 }
 
 // The sum of a flow's costs.
@@ -75,12 +54,9 @@ fn costs(f: Flow) -> u64
     ensures value { result ≡ sum_of least (path_of f) }
     ensures upper_bound { result ≤ 8 * 65535 }
 {
-    let n = flows::path_end(f);
-    let mut sum: u64 = 0;
-    let mut k: usize = 0;
-    while k < n {
+    let mut sum = 0;
+    for k in 0..flows::path_end(f) {
         sum += cost_of(f, k);
-        k += 1;
     }
     sum
 }
@@ -89,8 +65,8 @@ fn figure(f: Flow, lmin: u16, bound: u64, busy: u64) -> Figures
     requires { (bound ≤ most_time) × (busy ≤ most_time) }
     ensures { result ≡ figure_of f lmin bound busy }
 {
-    let links = least::less(flows::path_end(f) as u64, 1);
-    let jitter = least::less(bound, costs(f) + links * lmin as u64);
+    let links = (flows::path_end(f) as u64).saturating_sub(1);
+    let jitter = bound.saturating_sub(costs(f) + links * u64::from(lmin));
     Figures {
         bound: bound as u16,
         jitter: jitter as u16,
@@ -101,11 +77,7 @@ fn figure(f: Flow, lmin: u16, bound: u64, busy: u64) -> Figures
 fn last_place(f: Flow) -> usize
     ensures { (result ≡ length (path_of f) - 1) × (result ≤ 7) }
 {
-    let n = flows::path_end(f);
-    if n == 0 {
-        return 0;
-    }
-    n - 1
+    flows::path_end(f).saturating_sub(1)
 }
 
 // The figures of each flow, from the response bounds and the busy lengths.
@@ -113,62 +85,48 @@ fn figures_of(row: Row, lmin: u16, replies: &[u64], busies: &[u64]) -> [Figures;
     requires { Low replies.now × LowTo (length (held row)) busies.now × (length (held row) * most_nodes ≤ length replies.now) × (length (held row) ≤ length busies.now) }
     ensures { FiguresUpTo row lmin replies.now busies.now (length (held row)) result }
 {
-    let n = row::size(row);
-    let none = no_figures();
-    let mut figures = [none; FLOWS];
-    let mut k: usize = 0;
-    while k < n {
+    let mut figures = [NO_FIGURES; FLOWS];
+    for k in 0..row::size(row) {
         let f = row::flow_at(row, k);
         let at = k * NODES + last_place(f);
-        let bound = replies[at];
-        let busy = busies[k];
-        figures[k] = figure(f, lmin, bound, busy);
-        k += 1;
+        figures[k] = figure(f, lmin, replies[at], busies[k]);
     }
     figures
 }
 
 // The first flow whose bound is past its deadline.
-fn first_late(row: Row, figures: [Figures; FLOWS]) -> usize
+fn first_late(row: Row, figures: [Figures; FLOWS]) -> Option<usize>
     ensures { FirstIs (λ k. ltb (deadline_at row k) (bound_at figures k)) (length (held row)) result }
 {
-    let n = row::size(row);
-    let mut k: usize = 0;
-    while k < n {
+    for k in 0..row::size(row) {
         let f = row::flow_at(row, k);
         let g = figures[k];
         if f.deadline < g.bound {
-            return k;
+            return Some(k);
         }
-        k += 1;
     }
-    k
+    None
 }
 
 fn number_at(row: Row, k: usize) -> u8
     requires { k < length (held row) }
     ensures { result ≡ (placed row k).number }
 {
-    let f = row::flow_at(row, k);
-    f.number
+    row::flow_at(row, k).number
 }
 
 // 10, or accepted.
-fn judge_figures(row: Row, figures: [Figures; FLOWS]) -> Verdict
+fn judge_figures(row: Row, figures: [Figures; FLOWS]) -> Result<[Figures; FLOWS], Cause>
     ensures { DeadlinesIs row figures result }
 {
-    let late = first_late(row, figures);
-    if late < row::size(row) {
-        return refuse(Cause::PastDeadline(number_at(row, late)));
-    }
-    Verdict {
-        cause: Cause::Accepted,
-        figures,
+    match first_late(row, figures) {
+        Some(k) => Err(Cause::PastDeadline(number_at(row, k))),
+        None => Ok(figures),
     }
 }
 
-// 7 to 10 with the flow named, or the figures of each flow.
-pub fn judge(row: Row, lmin: u16, lmax: u16) -> Verdict
+// 7 to 10 with the flow named, or the figures of each flow in the row's order.
+pub fn judge(row: Row, lmin: u16, lmax: u16) -> Result<[Figures; FLOWS], Cause>
     ensures value { Valid (net_of lmin lmax row) → result ≡ verdict_of lmin lmax row }
     ensures meant { Valid (net_of lmin lmax row) → Meant (net_of lmin lmax row) result }
 {
@@ -196,9 +154,9 @@ pub fn judge(row: Row, lmin: u16, lmax: u16) -> Verdict
         &mut best,
     );
     match found {
-        Finding::Misplaced(k) => refuse(Cause::Crossing(number_at(row, k))),
-        Finding::Overloaded(k) => refuse(Cause::NoBusyLength(number_at(row, k))),
-        Finding::Past => refuse(Cause::Unsettled),
-        Finding::Settled => judge_figures(row, figures_of(row, lmin, &replies, &busies)),
+        Err(Finding::Misplaced(k)) => Err(Cause::Crossing(number_at(row, k))),
+        Err(Finding::Overloaded(k)) => Err(Cause::NoBusyLength(number_at(row, k))),
+        Err(Finding::Past) => Err(Cause::Unsettled),
+        Ok(()) => judge_figures(row, figures_of(row, lmin, &replies, &busies)),
     }
 }

@@ -1,3 +1,2 @@
 -- The laws of `findings`.
 pub mod Firsts
-pub mod Findings

@@ -1,5 +1,5 @@
 -- What the lists of a flow say of its arrays.
-use Prim.Native.Nat.{ℕ, zero, suc, ◌<◌, ◌≤◌}
+use Prim.Native.Nat.{ℕ, zero, suc, ◌<◌, ◌≤◌, min}
 use mathlib.Core.Path.{◌≡◌, refl, sym, ap, ◌∙◌}
 use mathlib.Core.List.{List, [], ◌∷◌, map}
 use native.Mathlib.Omega.{arith}
@@ -42,8 +42,8 @@ module _ (f : Flow) (nodes : length f.nodes ≡ most_nodes) (costs : length f.co
   pub path_short : f.length ≤ most_nodes → f.length ≡ length (path_of f)
   path_short h = sym (length-take-le f.length (hops_of f.nodes f.costs) (omega (arith, all)))
 
-  pub path_long : most_nodes < f.length → most_nodes ≡ length (path_of f)
-  path_long h = omega (arith, length-take f.length (hops_of f.nodes f.costs), all)
+  pub path_capped : (n : ℕ) → n ≡ min f.length most_nodes → n ≡ length (path_of f)
+  path_capped n e = omega (arith, length-take f.length (hops_of f.nodes f.costs), all)
 
   pub path_nodes : length (nodes_of f) ≡ length (path_of f)
   path_nodes = omega (arith, length-take f.length f.nodes, length-take f.length (hops_of f.nodes f.costs), all)

@@ -10,14 +10,15 @@ use lib.ListN.{length, get_or, length-take}
 use lib.Seq.{get_or-take, get_or-drop}
 use lib.Dec.{leb, ltb, eqb}
 use borrow.Author.Tests.{eq-eqb, ne_eqb, eqb-true, eqb-false, le-leb, leb-true, ltb-true, ltb-false, not-true}
+use Rattle.std.specs.Prelude.{Err}
 use Rattle.rules.specs.Net as net
 use Rattle.least.specs.Fold.{any_of}
 use Rattle.least.proofs.Count.{never_true}
 use Rattle.rules.specs.Formula.{visits}
 use Rattle.rules.specs.Valid.{Distinct, InRange}
 use Rattle.flows.specs.declared.Flow.{Flow}
-use Rattle.flows.specs.declared.Cause.{Cause}
-use Rattle.flows.specs.declared.Cause.TheVariants.{Accepted, Delays}
+use Rattle.flows.specs.declared.Cause.TheVariants.{Delays}
+use Rattle.flows.specs.Refusals.{Ruling, accepted}
 use Rattle.flows.specs.Lists.{most_nodes, hops_of, path_of, unused_of, flow_of}
 use Rattle.flows.specs.Tests.{most_delay, most_cost, delay_cause, every, hop_fits, hop_zero, ranges_fit, distinct, new_to, nodes_of, flow_cause}
 use Rattle.flows.specs.WellFormed.{Between, DelaysFit, Ranges, Differ, WellFormed, OfDelays, delays-fit, delays_unfit, OfFlow, number-zero, out_of_range, node-twice, well_formed, Exact, Each, each_none, each_more, Typed}
@@ -32,10 +33,10 @@ join : (a b : Bool) → a ≡ true → b ≡ true → (a && b) ≡ true
 join a b e h = rw (e, h)
 
 -- ---- given exactly when the rules say so: it is one of those causes, and the only one
-pub exact_from : (Of : Cause → Type 0) (r : Cause) → Of r → ((c : Cause) → Of c → c ≡ r) → Exact r Of
+pub exact_from : (Of : Ruling → Type 0) (r : Ruling) → Of r → ((c : Ruling) → Of c → c ≡ r) → Exact r Of
 exact_from Of r o only c = (λ e. subst Of e o, λ g. sym (only c g))
 
-pub exact_as : (Of : Cause → Type 0) (r s : Cause) → r ≡ s → Exact s Of → Exact r Of
+pub exact_as : (Of : Ruling → Type 0) (r s : Ruling) → r ≡ s → Exact s Of → Exact r Of
 exact_as Of r s e x c = (λ q. (x c).0 (sym e ∙ q), λ g. e ∙ (x c).1 g)
 
 -- ---- a test of every element, by places
@@ -216,7 +217,7 @@ module _ (f : Flow) (t : Typed f) where
           }))
 
   -- and that it is the only one
-  flow-only : (c : Cause) → OfFlow f c → c ≡ flow_cause f
+  flow-only : (c : Ruling) → OfFlow f c → c ≡ flow_cause f
   flow-only c (number-zero h) = cause_number f h
   flow-only c (out_of_range h n) = cause_range f h (ranges_fit f) refl (ap not (never_true (ranges_fit f) (λ e. n (ranges_in e))))
   flow-only c (node-twice h i n) =
@@ -230,18 +231,18 @@ module _ (f : Flow) (t : Typed f) where
   pub flow_exact : Exact (flow_cause f) (OfFlow f)
   flow_exact = exact_from (OfFlow f) (flow_cause f) of-flow flow-only
 
-  pub flow_given : (r : Cause) → r ≡ flow_cause f → Exact r (OfFlow f)
+  pub flow_given : (r : Ruling) → r ≡ flow_cause f → Exact r (OfFlow f)
   flow_given r e = exact_as (OfFlow f) r (flow_cause f) e flow_exact
 
   -- Accepted exactly if well formed
-  pub formed : flow_cause f ≡ Accepted → WellFormed f
-  formed e = go ((flow_exact Accepted).0 e)
+  pub formed : flow_cause f ≡ accepted → WellFormed f
+  formed e = go ((flow_exact accepted).0 e)
     where
-      go : OfFlow f Accepted → WellFormed f
+      go : OfFlow f accepted → WellFormed f
       go (well_formed w) = w
 
-  pub formed_passes : WellFormed f → flow_cause f ≡ Accepted
-  formed_passes w = (flow_exact Accepted).1 (well_formed w)
+  pub formed_passes : WellFormed f → flow_cause f ≡ accepted
+  formed_passes w = (flow_exact accepted).1 (well_formed w)
 
 -- ---- refusal 1
 module _ (lmin lmax : ℕ) where
@@ -260,11 +261,11 @@ module _ (lmin lmax : ℕ) where
           let g = ltb-false most_delay lmax j in
           subst (OfDelays lmin lmax) (delays_in lmin lmax h g) (delays-fit (h, g))
 
-  delays-only : (c : Cause) → OfDelays lmin lmax c → c ≡ delay_cause lmin lmax
+  delays-only : (c : Ruling) → OfDelays lmin lmax c → c ≡ delay_cause lmin lmax
   delays-only c (delays-fit h) = delays_in lmin lmax h.0 h.1
   delays-only c (delays_unfit n) = go (delay_cause lmin lmax) refl of-delays
     where
-      go : (d : Cause) → delay_cause lmin lmax ≡ d → OfDelays lmin lmax d → Delays ≡ delay_cause lmin lmax
+      go : (d : Ruling) → delay_cause lmin lmax ≡ d → OfDelays lmin lmax d → Err Delays ≡ delay_cause lmin lmax
       go d e (delays-fit h) = absurd (n h)
       go d e (delays_unfit g) = sym e
 
@@ -272,17 +273,17 @@ module _ (lmin lmax : ℕ) where
   pub delays_exact : Exact (delay_cause lmin lmax) (OfDelays lmin lmax)
   delays_exact = exact_from (OfDelays lmin lmax) (delay_cause lmin lmax) of-delays delays-only
 
-  pub delays_given : (r : Cause) → r ≡ delay_cause lmin lmax → Exact r (OfDelays lmin lmax)
+  pub delays_given : (r : Ruling) → r ≡ delay_cause lmin lmax → Exact r (OfDelays lmin lmax)
   delays_given r e = exact_as (OfDelays lmin lmax) r (delay_cause lmin lmax) e delays_exact
 
-  pub delays_formed : delay_cause lmin lmax ≡ Accepted → DelaysFit lmin lmax
-  delays_formed e = go ((delays_exact Accepted).0 e)
+  pub delays_formed : delay_cause lmin lmax ≡ accepted → DelaysFit lmin lmax
+  delays_formed e = go ((delays_exact accepted).0 e)
     where
-      go : OfDelays lmin lmax Accepted → DelaysFit lmin lmax
+      go : OfDelays lmin lmax accepted → DelaysFit lmin lmax
       go (delays-fit h) = h
 
-  pub delays_passes : DelaysFit lmin lmax → delay_cause lmin lmax ≡ Accepted
-  delays_passes h = (delays_exact Accepted).1 (delays-fit h)
+  pub delays_passes : DelaysFit lmin lmax → delay_cause lmin lmax ≡ accepted
+  delays_passes h = (delays_exact accepted).1 (delays-fit h)
 
 -- ---- what the formula needs
 pub each_member : {A : Type 0} (P : A → Type 0) (l : List A) {x : A} → Each P l → Memᴰ x l → P x

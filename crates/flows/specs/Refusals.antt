@@ -1,14 +1,11 @@
 -- The number of each cause, and the flow that it names. RULES, refusals.
-use Rattle.std.specs.Prelude.{ℕ, Bool, cond, eqb}
+use Rattle.std.specs.Prelude.{ℕ, Bool, cond, List, ◌++◌, codes, Result, Ok, Err, is_ok}
+use Rattle.std.specs.Fmt.{decimal}
 use Rattle.flows.specs.declared.Refusal.{Refusal}
-use Rattle.flows.specs.declared.Outcome.{Outcome}
-use Rattle.flows.specs.declared.Outcome.TheVariants.{Read, Refused}
 use Rattle.flows.specs.declared.Cause.{Cause}
-use Rattle.flows.specs.declared.Cause.TheVariants.{Accepted, Delays, NumberZero, OutOfRange, NodeTwice, Present, Full, Crossing, NoBusyLength, Unsettled, PastDeadline, Absent, Malformed, ShortBuffer}
+use Rattle.flows.specs.declared.Cause.TheVariants.{Delays, NumberZero, OutOfRange, NodeTwice, Present, Full, Crossing, NoBusyLength, Unsettled, PastDeadline, Absent, Malformed, ShortBuffer}
 
--- 0 is no refusal
 abbrev pub number_of : Cause → ℕ
-number_of Accepted = 0
 number_of Delays = 1
 number_of NumberZero = 2
 number_of OutOfRange = 3
@@ -23,15 +20,8 @@ number_of Absent = 11
 number_of Malformed = 12
 number_of ShortBuffer = 13
 
-abbrev pub accepted_by : Cause → Bool
-accepted_by cause = eqb (number_of cause) 0
-
--- the first of two causes that applies
-abbrev pub first_cause : Cause → Cause → Cause
-first_cause cause next = cond (accepted_by cause) next cause
-
+-- 0 where none is named
 abbrev pub flow_named : Cause → ℕ
-flow_named Accepted = 0
 flow_named Delays = 0
 flow_named NumberZero = 0
 flow_named OutOfRange = 0
@@ -46,14 +36,33 @@ flow_named Absent = 0
 flow_named Malformed = 0
 flow_named ShortBuffer = 0
 
-abbrev pub refusal_of : Cause → ℕ → Refusal
-refusal_of cause place = record { number = number_of cause; flow = flow_named cause; place = place }
+-- accepted, or refused for a cause
+abbrev pub Ruling : Type 0
+Ruling = Result (Unit {0}) Cause
 
--- the cause and the place that an outcome stands for
-abbrev pub cause_in : Outcome → Cause
-cause_in Read = Accepted
-cause_in (Refused cause place) = cause
+abbrev pub accepted : Ruling
+accepted = Ok tt
 
-abbrev pub place_in : Outcome → ℕ
-place_in Read = 0
-place_in (Refused cause place) = place
+abbrev pub accepted_by : Ruling → Bool
+accepted_by r = is_ok r
+
+-- the first of two causes that applies
+abbrev pub first_cause : Ruling → Ruling → Ruling
+first_cause r next = cond (accepted_by r) next r
+
+-- a ruling, with the place of a refusal; the cause and the place that stand in such an outcome
+abbrev pub at_place : Ruling → ℕ → Result (Unit {0}) Refusal
+at_place (Ok x) place = Ok tt
+at_place (Err cause) place = Err (record { cause = cause; place = place })
+
+abbrev pub cause_in : Result (Unit {0}) Refusal → Ruling
+cause_in (Ok x) = accepted
+cause_in (Err r) = Err r.cause
+
+abbrev pub place_in : Result (Unit {0}) Refusal → ℕ
+place_in (Ok x) = 0
+place_in (Err r) = r.place
+
+-- a refusal as it is printed. RULES, programs
+abbrev pub refusal_words : Refusal → List ℕ
+refusal_words r = codes "refused " ++ decimal (number_of r.cause) ++ codes " flow " ++ decimal (flow_named r.cause) ++ codes " at " ++ decimal r.place

@@ -1,9 +1,9 @@
 -- Refusals 1 to 4: what the link delays and a flow must be.
-use Rattle.std.specs.Prelude.{ℕ, ◌+◌, Bool, true, cond, not, ◌&&◌, ◌||◌, List, [], ◌∷◌, get_or, take, drop, leb, ltb, eqb}
+use Rattle.std.specs.Prelude.{ℕ, ◌+◌, Bool, true, cond, not, ◌&&◌, ◌||◌, List, [], ◌∷◌, get_or, take, drop, leb, ltb, eqb, Err}
 use Rattle.rules.specs.Net.{Hop}
 use Rattle.flows.specs.declared.Flow.{Flow}
-use Rattle.flows.specs.declared.Cause.{Cause}
-use Rattle.flows.specs.declared.Cause.TheVariants.{Accepted, Delays, NumberZero, OutOfRange, NodeTwice}
+use Rattle.flows.specs.declared.Cause.TheVariants.{Delays, NumberZero, OutOfRange, NodeTwice}
+use Rattle.flows.specs.Refusals.{Ruling, accepted}
 use Rattle.flows.specs.Lists.{most_nodes, path_of, unused_of}
 
 -- link delays and costs, at most
@@ -14,8 +14,8 @@ abbrev pub most_cost : ℕ
 most_cost = 4095
 
 -- 1: the greatest delay is below the least, or too long. RULES, refusals
-unfoldable pub delay_cause : ℕ → ℕ → Cause
-delay_cause lmin lmax = cond (ltb lmax lmin || ltb most_delay lmax) Delays Accepted
+unfoldable pub delay_cause : ℕ → ℕ → Ruling
+delay_cause lmin lmax = cond (ltb lmax lmin || ltb most_delay lmax) (Err Delays) accepted
 
 unfoldable pub every : {A : Type 0} → (A → Bool) → List A → Bool
 every p [] = true
@@ -50,8 +50,8 @@ abbrev pub not_again : Flow → ℕ → Bool
 not_again f i = new_to (drop (i + 1) (nodes_of f)) (get_or f.nodes i 0)
 
 -- 2: the number is 0; 3: something is out of range; 4: a node comes twice. RULES, refusals
-unfoldable pub flow_cause : Flow → Cause
+unfoldable pub flow_cause : Flow → Ruling
 flow_cause f =
-    cond (eqb f.number 0) NumberZero
-    (cond (not (ranges_fit f)) OutOfRange
-    (cond (not (distinct (nodes_of f))) NodeTwice Accepted))
+    cond (eqb f.number 0) (Err NumberZero)
+    (cond (not (ranges_fit f)) (Err OutOfRange)
+    (cond (not (distinct (nodes_of f))) (Err NodeTwice) accepted))

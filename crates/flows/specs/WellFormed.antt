@@ -1,9 +1,9 @@
 -- RULES, ranges: what link delays and a flow must be, with the rules' own figures; which of refusals 1 to 4 is given, and exactly when. Nothing
 -- here names a test.
-use Rattle.std.specs.Prelude.{ℕ, ◌<◌, ◌≤◌, ◌≡◌, List, [], ◌∷◌, length, get_or}
+use Rattle.std.specs.Prelude.{ℕ, ◌<◌, ◌≤◌, ◌≡◌, List, [], ◌∷◌, length, get_or, Err}
 use Rattle.flows.specs.declared.Flow.{Flow}
-use Rattle.flows.specs.declared.Cause.{Cause}
-use Rattle.flows.specs.declared.Cause.TheVariants.{Accepted, Delays, NumberZero, OutOfRange, NodeTwice}
+use Rattle.flows.specs.declared.Cause.TheVariants.{Delays, NumberZero, OutOfRange, NodeTwice}
+use Rattle.flows.specs.Refusals.{Ruling, accepted}
 
 abbrev pub Exactly : Type 0 → Type 0 → Type 0
 Exactly A B = (A → B) × (B → A)
@@ -34,19 +34,19 @@ pub record WellFormed (f : Flow) : Type 0 where
   pub differ : Differ f
 
 -- the refusal of link delays, and that of a flow by itself: the lowest that applies
-pub data OfDelays (lmin lmax : ℕ) : Cause → Type 0 where
-  delays-fit : DelaysFit lmin lmax → OfDelays lmin lmax Accepted
-  delays_unfit : (DelaysFit lmin lmax → ⊥) → OfDelays lmin lmax Delays
+pub data OfDelays (lmin lmax : ℕ) : Ruling → Type 0 where
+  delays-fit : DelaysFit lmin lmax → OfDelays lmin lmax accepted
+  delays_unfit : (DelaysFit lmin lmax → ⊥) → OfDelays lmin lmax (Err Delays)
 
-pub data OfFlow (f : Flow) : Cause → Type 0 where
-  number-zero : f.number ≡ 0 → OfFlow f NumberZero
-  out_of_range : (f.number ≡ 0 → ⊥) → (Ranges f → ⊥) → OfFlow f OutOfRange
-  node-twice : (f.number ≡ 0 → ⊥) → Ranges f → (Differ f → ⊥) → OfFlow f NodeTwice
-  well_formed : WellFormed f → OfFlow f Accepted
+pub data OfFlow (f : Flow) : Ruling → Type 0 where
+  number-zero : f.number ≡ 0 → OfFlow f (Err NumberZero)
+  out_of_range : (f.number ≡ 0 → ⊥) → (Ranges f → ⊥) → OfFlow f (Err OutOfRange)
+  node-twice : (f.number ≡ 0 → ⊥) → Ranges f → (Differ f → ⊥) → OfFlow f (Err NodeTwice)
+  well_formed : WellFormed f → OfFlow f accepted
 
--- a cause is given exactly when the rules say so
-abbrev pub Exact : Cause → (Cause → Type 0) → Type 0
-Exact r Of = (c : Cause) → Exactly (r ≡ c) (Of c)
+-- a ruling is given exactly when the rules say so
+abbrev pub Exact : Ruling → (Ruling → Type 0) → Type 0
+Exact r Of = (c : Ruling) → Exactly (r ≡ c) (Of c)
 
 module _ {A : Type 0} (P : A → Type 0) where
   pub data Each : List A → Type 0 where

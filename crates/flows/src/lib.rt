@@ -1,11 +1,13 @@
 // The types of the table, why a call is refused, and refusals 1 to 4 as tests.
 #![tactic(auto)]
 
-ghost use Rattle.std.specs.Prelude.{◌≡◌, ◌<◌, ◌≤◌, length};
-ghost use Rattle.flows.specs.Refusals.{number_of, accepted_by, flow_named, refusal_of, cause_in, place_in};
+ghost use Rattle.std.specs.Prelude.{◌≡◌, ◌<◌, ◌≤◌, length, Some};
+ghost use Rattle.flows.specs.Refusals.{number_of, flow_named, refusal_words};
 ghost use Rattle.flows.specs.Lists.{most_nodes, no_flow, path_of, unused_of};
 ghost use Rattle.flows.specs.Tests.{delay_cause, every, hop_fits, hop_zero, ranges_fit, distinct, nodes_of, not_again, flow_cause};
 ghost use Rattle.flows.specs.WellFormed.{OfDelays, OfFlow, Exact, Typed};
+
+use std::fmt;
 
 // The flows of a table, and the nodes of a path, at most.
 pub const FLOWS: usize = 16;
@@ -55,9 +57,8 @@ pub struct Table {
 }
 
 // Refusals 1 to 13 in their order, with the flow that 7, 8 and 10 name. RULES, refusals.
-#[derive(Clone, Copy)]
+#[derive(Clone, Copy, PartialEq, Eq)]
 pub enum Cause {
-    Accepted,
     Delays,
     NumberZero,
     OutOfRange,
@@ -73,39 +74,73 @@ pub enum Cause {
     ShortBuffer,
 }
 
+// A cause, and the place in the plan.
 #[derive(Clone, Copy)]
 pub struct Refusal {
-    pub number: u8,
-    pub flow: u8,
+    pub cause: Cause,
     pub place: usize,
 }
 
-// The new table; or why not, the place in the plan, and the table that goes with a refusal: the old one, or one without flows.
+// Whether the table is a new one, or why not; it stands beside the outcome and not in it, since the rules give a table with a refusal too: the old
+// one, or one without flows.
 #[derive(Clone, Copy)]
 pub struct Answer {
-    pub cause: Cause,
-    pub place: usize,
+    pub outcome: Result<(), Refusal>,
     pub table: Table,
 }
 
-#[derive(Clone, Copy)]
-pub enum Asked {
-    Given(Figures),
-    Refused(Refusal),
+impl Cause {
+    pub fn number(self) -> u8
+        ensures { result ≡ number_of self }
+    {
+        match self {
+            Cause::Delays => 1,
+            Cause::NumberZero => 2,
+            Cause::OutOfRange => 3,
+            Cause::NodeTwice => 4,
+            Cause::Present => 5,
+            Cause::Full => 6,
+            Cause::Crossing(_) => 7,
+            Cause::NoBusyLength(_) => 8,
+            Cause::Unsettled => 9,
+            Cause::PastDeadline(_) => 10,
+            Cause::Absent => 11,
+            Cause::Malformed => 12,
+            Cause::ShortBuffer => 13,
+        }
+    }
+
+    // 0 where none is named.
+    pub fn flow(self) -> u8
+        ensures { result ≡ flow_named self }
+    {
+        match self {
+            Cause::Crossing(flow) => flow,
+            Cause::NoBusyLength(flow) => flow,
+            Cause::PastDeadline(flow) => flow,
+            _ => 0,
+        }
+    }
+
+    pub fn at(self, place: usize) -> Refusal
+        ensures { result ≡ record { cause = self; place = place } }
+    {
+        Refusal { cause: self, place }
+    }
 }
 
-// Of reading records: all were read, or the first that is refused, with its place.
-#[derive(Clone, Copy)]
-pub enum Outcome {
-    Read,
-    Refused(Cause, usize),
-}
+impl fmt::Display for Refusal {
+    ghost output = { λ r. Some (refusal_words r) };
 
-// Of writing: the length of what was written, or the refusal of the buffer.
-#[derive(Clone, Copy)]
-pub enum Written {
-    Length(usize),
-    Refused(Refusal),
+    fn fmt<W: fmt::Write>(&self, f: &mut fmt::Formatter<W>) -> fmt::Result {
+        let (cause, place) = (self.cause, self.place);
+        write!(
+            f,
+            "refused {} flow {} at {place}",
+            cause.number(),
+            cause.flow()
+        )
+    }
 }
 
 pub fn no_flow() -> Flow
@@ -123,94 +158,16 @@ pub fn no_flow() -> Flow
     }
 }
 
-pub fn refusal_number(cause: Cause) -> u8
-    ensures { result ≡ number_of cause }
-{
-    match cause {
-        Cause::Accepted => 0,
-        Cause::Delays => 1,
-        Cause::NumberZero => 2,
-        Cause::OutOfRange => 3,
-        Cause::NodeTwice => 4,
-        Cause::Present => 5,
-        Cause::Full => 6,
-        Cause::Crossing(_) => 7,
-        Cause::NoBusyLength(_) => 8,
-        Cause::Unsettled => 9,
-        Cause::PastDeadline(_) => 10,
-        Cause::Absent => 11,
-        Cause::Malformed => 12,
-        Cause::ShortBuffer => 13,
-    }
-}
-
-pub fn accepted(cause: Cause) -> bool
-    ensures { result ≡ accepted_by cause }
-{
-    refusal_number(cause) == 0
-}
-
-pub fn flow_named(cause: Cause) -> u8
-    ensures { result ≡ flow_named cause }
-{
-    match cause {
-        Cause::Accepted => 0,
-        Cause::Delays => 0,
-        Cause::NumberZero => 0,
-        Cause::OutOfRange => 0,
-        Cause::NodeTwice => 0,
-        Cause::Present => 0,
-        Cause::Full => 0,
-        Cause::Crossing(flow) => flow,
-        Cause::NoBusyLength(flow) => flow,
-        Cause::Unsettled => 0,
-        Cause::PastDeadline(flow) => flow,
-        Cause::Absent => 0,
-        Cause::Malformed => 0,
-        Cause::ShortBuffer => 0,
-    }
-}
-
-pub fn refuse(cause: Cause, place: usize) -> Refusal
-    ensures { result ≡ refusal_of cause place }
-{
-    Refusal {
-        number: refusal_number(cause),
-        flow: flow_named(cause),
-        place,
-    }
-}
-
-// The cause that an outcome stands for.
-pub fn cause_in(outcome: Outcome) -> Cause
-    ensures { result ≡ cause_in outcome }
-{
-    match outcome {
-        Outcome::Read => Cause::Accepted,
-        Outcome::Refused(cause, _) => cause,
-    }
-}
-
-pub fn place_in(outcome: Outcome) -> usize
-    ensures { result ≡ place_in outcome }
-{
-    match outcome {
-        Outcome::Read => 0,
-        Outcome::Refused(_, place) => place,
-    }
-}
-
-pub fn delay_cause(lmin: u16, lmax: u16) -> Cause
+#[tactic(auto, unfolding(crate::specs::Tests::delay_cause))]
+pub fn delay_cause(lmin: u16, lmax: u16) -> Result<(), Cause>
     ensures value { result ≡ delay_cause lmin lmax }
     ensures exact { Exact result (OfDelays lmin lmax) }
 {
-    if lmax < lmin {
-        return Cause::Delays;
+    if lmin <= lmax && lmax <= DELAY {
+        Ok(())
+    } else {
+        Err(Cause::Delays)
     }
-    if DELAY < lmax {
-        return Cause::Delays;
-    }
-    Cause::Accepted
 }
 
 // How many nodes the path has: at most as many as there are places.
@@ -218,44 +175,30 @@ pub fn path_end(f: Flow) -> usize
     ensures value { result ≡ length (path_of f) }
     ensures upper_bound { result ≤ most_nodes }
 {
-    let n = f.length as usize;
-    if NODES < n {
-        return NODES;
-    }
-    n
+    usize::from(f.length).min(NODES)
 }
 
+#[tactic(auto, unfolding(crate::specs::Tests::hop_fits))]
 fn hop_fits(node: u8, cost: u16) -> bool
     ensures { result ≡ hop_fits (record { node = node; cost = cost }) }
 {
-    if node == 0 {
-        return false;
-    }
-    if cost == 0 {
-        return false;
-    }
-    cost <= COST
+    node != 0 && cost != 0 && cost <= COST
 }
 
+#[tactic(auto, unfolding(crate::specs::Tests::hop_zero))]
 fn hop_zero(node: u8, cost: u16) -> bool
     ensures { result ≡ hop_zero (record { node = node; cost = cost }) }
 {
-    if node != 0 {
-        return false;
-    }
-    cost == 0
+    node == 0 && cost == 0
 }
 
 fn used_fit(f: Flow) -> bool
     ensures { result ≡ every hop_fits (path_of f) }
 {
-    let n = path_end(f);
-    let mut k = 0;
-    while k < n {
+    for k in 0..path_end(f) {
         if !hop_fits(f.nodes[k], f.costs[k]) {
             return false;
         }
-        k += 1;
     }
     true
 }
@@ -263,36 +206,24 @@ fn used_fit(f: Flow) -> bool
 fn unused_zero(f: Flow) -> bool
     ensures { result ≡ every hop_zero (unused_of f) }
 {
-    let mut k = f.length as usize;
-    while k < NODES {
+    for k in usize::from(f.length)..NODES {
         if !hop_zero(f.nodes[k], f.costs[k]) {
             return false;
         }
-        k += 1;
     }
     true
 }
 
+#[tactic(auto, unfolding(crate::specs::Tests::ranges_fit))]
 fn ranges_fit(f: Flow) -> bool
     ensures { result ≡ ranges_fit f }
 {
-    if f.period == 0 {
-        return false;
-    }
-    if f.deadline == 0 {
-        return false;
-    }
-    if f.length == 0 {
-        return false;
-    }
-    let n = f.length as usize;
-    if NODES < n {
-        return false;
-    }
-    if !used_fit(f) {
-        return false;
-    }
-    unused_zero(f)
+    f.period != 0
+        && f.deadline != 0
+        && f.length != 0
+        && usize::from(f.length) <= NODES
+        && used_fit(f)
+        && unused_zero(f)
 }
 
 // Whether node i does not come again on the path.
@@ -300,14 +231,11 @@ fn not_again(f: Flow, i: usize) -> bool
     requires { i < most_nodes }
     ensures { result ≡ not_again f i }
 {
-    let n = path_end(f);
     let node = f.nodes[i];
-    let mut k = i + 1;
-    while k < n {
+    for k in i + 1..path_end(f) {
         if f.nodes[k] == node {
             return false;
         }
-        k += 1;
     }
     true
 }
@@ -315,31 +243,28 @@ fn not_again(f: Flow, i: usize) -> bool
 fn nodes_differ(f: Flow) -> bool
     ensures { result ≡ distinct (nodes_of f) }
 {
-    let n = path_end(f);
-    let mut i = 0;
-    while i < n {
+    for i in 0..path_end(f) {
         if !not_again(f, i) {
             return false;
         }
-        i += 1;
     }
     true
 }
 
 // Refusals 2 to 4, the lowest number first. That f is typed is for callers who keep it in a list, where no type says so.
-pub fn flow_cause(f: Flow) -> Cause
+pub fn flow_cause(f: Flow) -> Result<(), Cause>
     ensures value { result ≡ flow_cause f }
     ensures exact { Exact result (OfFlow f) }
     ensures typed { Typed f }
 {
     if f.number == 0 {
-        return Cause::NumberZero;
+        return Err(Cause::NumberZero);
     }
     if !ranges_fit(f) {
-        return Cause::OutOfRange;
+        return Err(Cause::OutOfRange);
     }
     if !nodes_differ(f) {
-        return Cause::NodeTwice;
+        return Err(Cause::NodeTwice);
     }
-    Cause::Accepted
+    Ok(())
 }

@@ -3,7 +3,7 @@ use mathlib.Core.Path.{◌≡◌, refl, sym, ap, ◌∙◌, subst}
 use mathlib.Core.Logic.{inl, inr}
 use mathlib.Core.List.{List, [], ◌∷◌, ◌++◌, append-nil}
 use Prim.Native.Nat.{ℕ, ◌+◌, ◌-◌, ◌*◌, ◌≤◌, ◌<◌}
-use native.Mathlib.Nat.{mul-le-mul, mul-le-mul_right}
+use native.Mathlib.Nat.{mul-le-mul_right}
 use native.Mathlib.Omega.{arith}
 use lib.ListN.{length, get_or, set, length-append, length-set, get_or-append}
 use lib.Seq.{get_or-set_same, get_or-set_other, get_or_at}
@@ -13,9 +13,6 @@ use Rattle.least.proofs.Stores.{set_cases}
 use Rattle.nets.specs.Nets.{few}
 use Rattle.blocks.specs.Sheet.{node_slot, block_at, entries_in, entry_at, Small, Fit}
 use Rattle.frames.specs.Frames.{Entry, no_entry, EntryIs, Listed, block_size, begin_of, Frame, Appended, entry_from, GrownAt, Grown, Roomy}
-
-pub block-fits : (p n : ℕ) → p ≤ few → n ≤ few → p * block_size n ≤ 20034
-block-fits p n h i = mul-le-mul {n₂ = 63} {m₂ = 318} h (omega arith)
 
 -- no number stands in two blocks
 apart : (s k p i j : ℕ) → (k ≡ p → ⊥) → i < s → j < s → 1 + k * s + i ≡ 1 + p * s + j → ⊥
@@ -180,12 +177,6 @@ module _ (n p : ℕ) (x : Entry) (e e' : List ℕ) (A : Appended n p x e e') (si
     entries = λ u l L. subst (λ z. Listed e' p (l ++ (z ∷ []))) (f u) (more l L);
   }
 
-pub append-fits : (n p : ℕ) (e : List ℕ) → Frame n (p + 1) e → entries_in e p < n → (at : ℕ) → at ≡ begin_of n p →
-    (at + 8 + 5 * values e (at + 2) ≤ length e) × (values e (at + 2) < n)
-append-fits n p e f room at begins =
-    let z : values e (at + 2) ≡ entries_in e p = ap (λ s. values e (s + 2)) begins ∙ ap (λ s. values e (1 + p * s + 2)) (sym f.size) in
-    (omega (arith, f.long), omega arith)
-
 -- its stores
 abbrev pub stored : List ℕ → ℕ → ℕ → ℕ → ℕ → ℕ → ℕ → List ℕ
 stored e at look plus less period weight =
@@ -349,15 +340,6 @@ module _ {Q : Type 0} {n m : ℕ} {base add : ℕ → ℕ} where
     long = H.long;
     small = H.small;
     looks = λ k q i g. absurd (omega (arith, (H.heads k (omega arith) i).none));
-  }
-
-  pub heads_none : (e : List ℕ) → 1 + m * block_size n ≤ length e → n ≤ 63 → Small e → (size : ℕ) → size ≡ block_size n →
-      Heads Q n m base add (set e 0 size) 0
-  heads_none e h few s size z = record {
-    size = get_or-set_same e 0 size 0 (omega arith) ∙ z;
-    long = simp length-set h;
-    small = small-set e 0 size (omega arith) (omega arith) s;
-    heads = λ k g i. absurd (omega arith);
   }
 
   pub heads_more : {e : List ℕ} {p : ℕ} (at x y : ℕ) → Heads Q n m base add e p → p < m → at ≡ begin_of n p → x < 16777216 → y < 16777216 →

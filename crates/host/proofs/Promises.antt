@@ -1,6 +1,6 @@
 -- What the host's functions on plans promise, from the equations. Assumes nothing.
 use Prim.Native.Nat.{ℕ, ◌<◌}
-use mathlib.Core.Path.{◌≡◌, refl, sym, ap, ◌∙◌, subst}
+use mathlib.Core.Path.{◌≡◌, sym, ap, ◌∙◌, subst}
 use mathlib.Core.List.{List}
 use mathlib.Core.Logic.{inr, ⊎_elim}
 use lib.ListN.{get_or}
@@ -8,12 +8,9 @@ use mir.Val.{Fits}
 use mir.Syntax.{w8}
 use Rattle.flows.specs.declared.Answer.{Answer}
 use Rattle.flows.specs.declared.Flow.{Flow}
-use Rattle.flows.specs.declared.Refusal.{Refusal}
 use Rattle.flows.specs.declared.Table.{Table}
-use Rattle.flows.specs.declared.Cause.TheVariants.{Accepted}
-use Rattle.flows.specs.Refusals.{accepted_by, refusal_of}
+use Rattle.std.specs.Prelude.{Ok}
 use Rattle.flows.specs.Lists.{flow_of, table_net}
-use Rattle.flows.proofs.Causes.{accepted_only, not_accepted}
 use Rattle.rules.specs.Meaning.{IsBound}
 use Rattle.records.specs.Bodies.{Bytes}
 use Rattle.records.proofs.RoundTrip.{bytes_fit}
@@ -22,24 +19,13 @@ use Rattle.table.specs.Demands.{Present, Unused, Figured}
 use Rattle.table.proofs.Figures.{made-figured}
 use Rattle.plans.specs.Plans.{plan_answer}
 use Rattle.plans.proofs.Trips.{answer_made}
-use Rattle.host.specs.Host.{bound_of, code_of, plan_code, plan_bound}
-use Rattle.host.specs.Demands.{Judges, Bounds}
-use Rattle.host.proofs.Numbers.{coded, parts}
-use Rattle.host.proofs.Zero.{zero_accepted, accepted_zero, lacks_zero, refused_zero, zero_lacks}
+use Rattle.host.specs.Host.{bound_of, outcome_code, plan_bound}
+use Rattle.host.specs.Demands.{number_in, flow_in, Judges, Bounds}
+use Rattle.host.proofs.Numbers.{tells}
+use Rattle.host.proofs.Zero.{lacks_zero, refused_zero, zero_lacks}
 
-pub judge_promise : (b : List ℕ) (a : Answer) (x : Refusal) (r : ℕ) → ((k : ℕ) → Fits w8 (get_or b k 0)) → a ≡ plan_answer b → x ≡ refusal_of a.cause a.place → r ≡ code_of x →
-    (x.number < 256) × (x.flow < 256) → Judges b r
-judge_promise b a x r f e g h s =
-    let i : x ≡ refusal_of (plan_answer b).cause (plan_answer b).place = rw e at g in
-    let p = parts x s in
-    let z : code_of x ≡ plan_code b = coded b a x e g (code_of x) refl in
-    subst (λ (q : ℕ). Judges b q) (sym h) (record {
-      accepted =
-          (λ y. accepted_only (plan_answer b).cause (zero_accepted b (sym z ∙ y)), λ y. z ∙ accepted_zero b (bytes_fit b f) (ap accepted_by y));
-      number = p.number ∙ ap (λ (q : Refusal). q.number) i;
-      flow = p.flow ∙ ap (λ (q : Refusal). q.flow) i;
-      place = p.place ∙ ap (λ (q : Refusal). q.place) i;
-    })
+pub judge_promise : (b : List ℕ) (a : Answer) (r : ℕ) → a ≡ plan_answer b → r ≡ outcome_code a.outcome → (number_in a.outcome < 256) × (flow_in a.outcome < 256) → Judges b r
+judge_promise b a r e h s = rw (h, ← e) (tells a.outcome s.1)
 
 -- ---- the bound
 module _ (b : List ℕ) (n : ℕ) (u : Bytes b) where
@@ -60,7 +46,7 @@ module _ (b : List ℕ) (n : ℕ) (u : Bytes b) where
   bounds = record {
     zero = (
       λ z. inr (zero_lacks b n u z),
-      λ w. ⊎_elim (λ (never : (plan_answer b).cause ≡ Accepted → ⊥). refused_zero b n (not_accepted (plan_answer b).cause never)) (λ (a : Unused t n). lacks_zero b n a) w,
+      λ w. ⊎_elim (λ (never : (plan_answer b).outcome ≡ Ok tt → ⊥). refused_zero b n never) (λ (a : Unused t n). lacks_zero b n a) w,
     );
     arrivals = figured.arrivals;
     least = figured.least;

@@ -1,17 +1,16 @@
--- What 0 says: an accepted plan; a plan that is refused or lacks the flow. Assumes nothing.
+-- What 0 says of a flow's bound: that the plan is refused or lacks the flow. Assumes nothing.
 use Prim.Native.Nat.{ℕ, ◌<◌}
-use mathlib.Core.Path.{◌≡◌, ap, ◌∙◌, subst}
-use mathlib.Core.Bool.{true, false}
+use mathlib.Core.Path.{◌≡◌, refl, ap, ◌∙◌, subst}
 use mathlib.Core.List.Memᴰ
 use mathlib.Core.List.{List}
 use native.Mathlib.Omega.{arith}
-use borrow.Author.Tests.{eq-eqb}
+use Rattle.std.specs.Prelude.{Result, Ok, Err}
 use Rattle.rules.proofs.Exact.{jitter_below}
 use Rattle.flows.specs.declared.Flow.{Flow}
 use Rattle.flows.specs.declared.Table.{Table}
-use Rattle.flows.specs.Refusals.{number_of, accepted_by, flow_named}
+use Rattle.flows.specs.declared.Refusal.{Refusal}
+use Rattle.flows.specs.Refusals.{accepted, cause_in}
 use Rattle.flows.specs.Lists.{flow_of, table_net}
-use Rattle.flows.proofs.Causes.{accepted_only}
 use Rattle.records.specs.Bodies.{Bytes}
 use Rattle.table.specs.Calls.{asked_for}
 use Rattle.table.specs.Made.{Made}
@@ -19,24 +18,14 @@ use Rattle.table.specs.Demands.{Present, Unused}
 use Rattle.table.proofs.Figures.{made_valid, made-figured}
 use Rattle.table.proofs.Calls.{none_present, ask_refused}
 use Rattle.plans.specs.Plans.{plan_answer}
-use Rattle.plans.proofs.Trips.{refused_table, answer_made, accepted_place}
-use Rattle.host.specs.Host.{bound_of, plan_code, plan_bound}
-
--- ---- the plan's number
-module _ (b : List ℕ) where
-  pub zero_accepted : plan_code b ≡ 0 → accepted_by (plan_answer b).cause ≡ true
-  unfolding plan_code
-  zero_accepted e = eq-eqb (number_of (plan_answer b).cause) 0 (omega arith)
-
-  pub accepted_zero : Bytes b → accepted_by (plan_answer b).cause ≡ true → plan_code b ≡ 0
-  unfolding plan_code
-  accepted_zero u h =
-      let c = accepted_only (plan_answer b).cause h in
-      let n : number_of (plan_answer b).cause ≡ 0 = ap number_of c in
-      let f : flow_named (plan_answer b).cause ≡ 0 = ap flow_named c in
-      omega (arith, accepted_place b u h)
+use Rattle.plans.proofs.Trips.{refused_table, answer_made}
+use Rattle.host.specs.Host.{bound_of, plan_bound}
 
 -- ---- a flow's bound
+accepted_ok : (o : Result (Unit {0}) Refusal) → cause_in o ≡ accepted → o ≡ Ok tt
+accepted_ok (Ok tt) h = refl
+accepted_ok (Err r) h = absurd (cc)
+
 made-bound : (t : Table) → Made t → (f : Flow) → Present t f → 0 < bound_of (asked_for t f.number)
 unfolding bound_of
 made-bound t m f p =
@@ -52,8 +41,8 @@ module _ (b : List ℕ) (n : ℕ) where
   unfolding plan_bound bound_of
   lacks_zero a = ap bound_of (ask_refused (plan_answer b).table n a)
 
-  pub refused_zero : accepted_by (plan_answer b).cause ≡ false → plan_bound b n ≡ 0
-  refused_zero h = lacks_zero (λ f p q. none_present 0 0 f (subst (λ (t : Table). Present t f) (refused_table b h) p))
+  pub refused_zero : ((plan_answer b).outcome ≡ Ok tt → ⊥) → plan_bound b n ≡ 0
+  refused_zero never = lacks_zero (λ f p q. none_present 0 0 f (subst (λ (t : Table). Present t f) (refused_table b (λ h. never (accepted_ok (plan_answer b).outcome h))) p))
 
   pub zero_lacks : Bytes b → plan_bound b n ≡ 0 → Unused (plan_answer b).table n
   unfolding plan_bound

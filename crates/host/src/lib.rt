@@ -2,30 +2,42 @@
 #![tactic(auto)]
 
 ghost use Rattle.std.specs.Prelude.{◌≡◌, ◌<◌, ◌^◌, length};
-ghost use Rattle.host.specs.Host.{code_of, bound_in, plan_code, plan_bound, written_code, figure_of, figure_in, write_code, write_buffer, report_code, report_figure};
-ghost use Rattle.host.specs.Demands.{Judges, Bounds, Writes, Checks, Shows};
+ghost use Rattle.flows.specs.Refusals.{number_of, flow_named, place_in};
+ghost use Rattle.host.specs.Host.{code_of, outcome_code, bound_in, plan_code, plan_bound, written_code, figure_of, figure_in, write_code, write_buffer, report_code, report_figure};
+ghost use Rattle.host.specs.Demands.{number_in, flow_in, Judges, Bounds, Writes, Checks, Shows};
 
-use flows::{Answer, Asked, Figures, Refusal, Written};
+use flows::{Answer, Figures, Refusal};
 
-// A refusal as one number; 0 where there is none.
+// A refusal as one number.
 fn code(refusal: Refusal) -> u64
-    requires { code_of refusal < 2 ^ 64 }
+    requires { refusal.place < 2 ^ 48 }
     ensures value { result ≡ code_of refusal }
-    ensures number_bound { (refusal.number < 256) × (refusal.flow < 256) }
+    ensures number_bound { (number_of refusal.cause < 256) × (flow_named refusal.cause < 256) }
 {
-    let number = refusal.number as u64;
-    let flow = refusal.flow as u64;
+    let number = u64::from(refusal.cause.number());
+    let flow = u64::from(refusal.cause.flow());
     number + 256 * flow + 65536 * refusal.place as u64
 }
 
+// 0 for what was not refused.
+fn outcome_code(outcome: Result<(), Refusal>) -> u64
+    requires { place_in outcome < 2 ^ 48 }
+    ensures value { result ≡ outcome_code outcome }
+    ensures number_bound { (number_in outcome < 256) × (flow_in outcome < 256) }
+{
+    match outcome {
+        Ok(()) => 0,
+        Err(refusal) => code(refusal),
+    }
+}
+
+#[tactic(auto, unfolding(crate::specs::Host::bound_of))]
 fn bound_in(answer: Answer, number: u8) -> u64
     ensures { result ≡ bound_in answer number }
 {
-    let table = answer.table;
-    let asked = table::ask(table, number);
-    match asked {
-        Asked::Given(g) => g.bound as u64,
-        Asked::Refused(_) => 0,
+    match table::ask(answer.table, number) {
+        Ok(g) => u64::from(g.bound),
+        Err(_) => 0,
     }
 }
 
@@ -35,9 +47,7 @@ pub extern "C" fn kezhuvanam_judge(plan: &[u8]) -> u64
     ensures value { result ≡ plan_code plan.now }
     ensures judges { Judges plan.now result }
 {
-    let answer = plans::read_plan(plan);
-    let cause = answer.cause;
-    code(flows::refuse(cause, answer.place))
+    outcome_code(plans::read_plan(plan).outcome)
 }
 
 // The bound of a flow; 0 for a refused plan, or one without that flow. RULES, host calls.
@@ -53,13 +63,13 @@ pub extern "C" fn kezhuvanam_bound(plan: &[u8], number: u64) -> u64
 }
 
 // The length times 256, which is no refusal's number, or the refusal.
-fn written_code(written: Written) -> u64
+fn written_code(written: Result<usize, Refusal>) -> u64
     requires { written_code written < 2 ^ 64 }
     ensures { result ≡ written_code written }
 {
     match written {
-        Written::Length(n) => 256 * n as u64,
-        Written::Refused(refusal) => code(refusal),
+        Ok(n) => 256 * n as u64,
+        Err(refusal) => code(refusal),
     }
 }
 
@@ -71,13 +81,10 @@ pub extern "C" fn kezhuvanam_report_write(plan: &[u8], buffer: &mut [u8]) -> u64
     ensures writes { Writes plan.now buffer.old result buffer.new }
 {
     let answer = plans::read_plan(plan);
-    let cause = answer.cause;
-    if !flows::accepted(cause) {
-        return code(flows::refuse(cause, answer.place));
+    match answer.outcome {
+        Ok(()) => written_code(reports::write_report(buffer, answer.table)),
+        Err(refusal) => code(refusal),
     }
-    let table = answer.table;
-    let written = reports::write_report(buffer, table);
-    written_code(written)
 }
 
 // 0, or the refusal of the report as one number. RULES, host calls.
@@ -86,29 +93,28 @@ pub extern "C" fn kezhuvanam_report_check(report: &[u8]) -> u64
     ensures value { result ≡ report_code report.now }
     ensures checks { Checks report.now result }
 {
-    let reading = lines::read(report);
-    let outcome = reading.outcome;
-    code(flows::refuse(flows::cause_in(outcome), flows::place_in(outcome)))
+    outcome_code(lines::read(report).outcome)
 }
 
 // One figure, by its number, and 1 more.
+#[tactic(auto, unfolding(crate::specs::Host::figure_of))]
 fn figure_of(g: Figures, figure: u64) -> u64
     ensures { result ≡ figure_of g figure }
 {
     match figure {
-        1 => g.bound as u64 + 1,
-        2 => g.jitter as u64 + 1,
-        3 => g.busy as u64 + 1,
+        1 => u64::from(g.bound) + 1,
+        2 => u64::from(g.jitter) + 1,
+        3 => u64::from(g.busy) + 1,
         _ => 0,
     }
 }
 
-fn figure_in(asked: Asked, figure: u64) -> u64
+fn figure_in(asked: Result<Figures, Refusal>, figure: u64) -> u64
     ensures { result ≡ figure_in asked figure }
 {
     match asked {
-        Asked::Given(g) => figure_of(g, figure),
-        Asked::Refused(_) => 0,
+        Ok(g) => figure_of(g, figure),
+        Err(_) => 0,
     }
 }
 
@@ -121,7 +127,5 @@ pub extern "C" fn kezhuvanam_report_figure(report: &[u8], number: u64, figure: u
     if number > 255 {
         return 0;
     }
-    let reading = lines::read(report);
-    let lines = reading.report;
-    figure_in(lines::ask(lines, number as u8), figure)
+    figure_in(lines::ask(lines::read(report).report, number as u8), figure)
 }

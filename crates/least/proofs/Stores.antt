@@ -1,14 +1,15 @@
 -- Numbers stored at places: what they change, and what not. Assumes nothing.
-use mathlib.Core.Path.{◌≡◌, refl, sym, ◌∙◌, subst}
+use mathlib.Core.Path.{◌≡◌, refl, sym, ap, ◌∙◌, subst}
 use mathlib.Core.Bool.{Bool, true, false}
-use mathlib.Core.List.{List}
-use Prim.Native.Nat.{ℕ, ◌+◌, ◌≤◌, ◌<◌}
+use mathlib.Core.List.{List, ◌++◌}
+use Prim.Native.Nat.{ℕ, ◌+◌, ◌-◌, ◌≤◌, ◌<◌}
 use native.Mathlib.Omega.{arith}
 use lib.Dec.{eqb}
-use lib.ListN.{length, set, length-set}
+use lib.ListN.{length, take, drop, replicate, set, length-set}
 use lib.Seq.{get_or-set_same, get_or-set_other}
 use borrow.Author.Count.{below_more}
 use borrow.Author.Tests.{eqb-true, eqb-false}
+use Rattle.std.proofs.lemmas.List.{length-replicate, length-take-le, length-append, length-drop, get_or_append_left, get_or-append_right, get_or-replicate, get_or-drop}
 use Rattle.least.specs.Lists.{values, Inside, Ahead}
 
 -- a store at k, seen anywhere
@@ -49,6 +50,27 @@ inside-twice {a} {b} = inside_then a b (omega arith) (omega arith) (omega arith)
 -- a change, and then a store
 pub inside_more : {a b : ℕ} {l₀ l : List ℕ} (k v : ℕ) → a ≤ k → k < b → Inside a b l₀ l → Inside a b l₀ (set l k v)
 inside_more {a} {b} {l} k v h g i = inside_then a b (omega arith) (omega arith) h (omega arith) i (inside-set l k v)
+
+-- the first n numbers of a slice filled with x
+module _ (l f : List ℕ) (n x : ℕ) (room : n ≤ length l) (is : f ≡ replicate (length (take n l)) x) where
+  filled : length f ≡ n
+  filled = rw is (omega (arith, length-replicate {A = ℕ} (length (take n l)) x, length-take-le n l room))
+
+  pub filled_all : (k : ℕ) → k < n → values (f ++ drop n l) k ≡ x
+  filled_all k h =
+      get_or_append_left f (drop n l) 0 k (omega (arith, filled))
+      ∙ ap (λ f. values f k) is
+      ∙ get_or-replicate (length (take n l)) k x 0 (omega (arith, length-take-le n l room))
+
+  pub filled_inside : Inside 0 n l (f ++ drop n l)
+  filled_inside = record {
+    before = λ k h. absurd (omega arith);
+    behind = λ k h.
+        get_or-append_right f (drop n l) n k 0 filled h
+        ∙ get_or-drop n l (k - n) 0
+        ∙ (let q : n + (k - n) ≡ k = omega arith in ap (values l) q);
+    long = simp (length-append, length-drop) (omega (arith, filled));
+  }
 
 pub ahead_none : (at : ℕ) (l : List ℕ) → Ahead at l l
 ahead_none at l = record { before = λ k r. refl; long = refl }

@@ -4,11 +4,13 @@ use mathlib.Core.Path.{◌≡◌, refl}
 use mathlib.Core.Bool.{Bool, true, ◌&&◌}
 use mathlib.Core.List.{List, [], ◌∷◌, ◌++◌}
 use lib.Dec.{eqb}
-use Rattle.flows.specs.Refusals.{number_of, cause_in, place_in}
+use Rattle.std.specs.Prelude.{Result, Ok, Err}
+use Rattle.flows.specs.declared.Refusal.{Refusal}
+use Rattle.flows.specs.Refusals.{number_of, place_in}
 use Rattle.flows.specs.Tests.{every}
 use Rattle.reader.specs.Places.{kind_named, kind_of, kind_at, if_kind}
 use Rattle.lines.specs.Reports.{report_of}
-use Rattle.lines.specs.Reading.{refused, last_number, figures_fit, line_cause, read_close, read_lines, read_report}
+use Rattle.lines.specs.Reading.{last_number, figures_fit, line_cause, unless, read_close, read_lines, read_records, read_report}
 
 -- a line of one-byte numbers
 line : ℕ → ℕ → ℕ → ℕ → List ℕ
@@ -34,9 +36,13 @@ cases =
     case (16 ∷ 1 ∷ line 1 7 4 3 ++ line 2 8 3 8 ++ (31 ∷ [])) 12 10 ∷ case (16 ∷ 1 ∷ line 1 7 4 3) 12 10 ∷ case (16 ∷ 1 ∷ 17 ∷ 1 ∷ 0 ∷ 7 ∷ []) 12 2 ∷
     case (16 ∷ 2 ∷ line 1 7 4 3 ++ (18 ∷ 0 ∷ [])) 12 10 ∷ []
 
+number_in : Result (Unit {0}) Refusal → ℕ
+number_in (Ok x) = 0
+number_in (Err r) = number_of r.cause
+
 right : Case → Bool
-right c = eqb (number_of (cause_in (read_report c.bytes).outcome)) c.number && eqb (place_in (read_report c.bytes).outcome) c.place
+right c = eqb (number_in (read_report c.bytes).outcome) c.number && eqb (place_in (read_report c.bytes).outcome) c.place
 
 all_right : every right cases ≡ true
-unfolding cases case right line every read_report if_kind kind_at kind_of kind_named read_lines read_close line_cause last_number figures_fit refused report_of
+unfolding cases case right number_in line every read_records if_kind kind_at kind_of kind_named read_lines read_close line_cause unless last_number figures_fit report_of
 all_right = refl

@@ -2,8 +2,8 @@
 use Prim.Native.Nat.{ℕ}
 use mathlib.Core.Path.{◌≡◌, refl, sym, ap, ◌∙◌, subst}
 use mathlib.Core.List.{List, []}
-use Rattle.flows.specs.declared.Outcome.{Outcome}
-use Rattle.flows.specs.declared.Outcome.TheVariants.{Read, Refused}
+use Rattle.flows.specs.declared.Refusal.{Refusal}
+use Rattle.std.specs.Prelude.{Result, Ok, Err}
 use Rattle.records.specs.declared.Line.{Line}
 use Rattle.records.specs.Bodies.{Bytes}
 use Rattle.reader.proofs.Places.{impossible}
@@ -23,12 +23,12 @@ listed-order ls c = record { listable = subst Listable (sym (lines_of ls)) c; re
 pub read-order : (b : List ℕ) → Bytes b → InOrder (read_report b).report
 read-order b u = go (read_report b).outcome refl
   where
-    go : (o : Outcome) → (read_report b).outcome ≡ o → InOrder (read_report b).report
-    go Read e = let i = report_form b u e in subst (λ (r : Reading). InOrder r.report) (sym (form_read b i)) (listed-order i.lines i.listable)
-    go (Refused cause place) e = subst InOrder (sym ((place_inside b u).empty (λ g. impossible (cc)))) (listed-order [] none_listable)
+    go : (o : Result (Unit {0}) Refusal) → (read_report b).outcome ≡ o → InOrder (read_report b).report
+    go (Ok x) e = let i = report_form b u e in subst (λ (r : Reading). InOrder r.report) (sym (form_read b i)) (listed-order i.lines i.listable)
+    go (Err r) e = subst InOrder (sym ((place_inside b u).empty (λ g. impossible (cc)))) (listed-order [] none_listable)
 
 -- what is read and then written is the bytes that were read
-pub read_write : (b : List ℕ) → Bytes b → (s : Report) → read_report b ≡ record { outcome = Read; report = s } → report_bytes (lines_in s) ≡ b
+pub read_write : (b : List ℕ) → Bytes b → (s : Report) → read_report b ≡ record { outcome = Ok tt; report = s } → report_bytes (lines_in s) ≡ b
 read_write b u s e =
     let i = report_form b u (ap (λ (r : Reading). r.outcome) e) in
     ap (λ (r : Reading). report_bytes (lines_in r.report)) (sym e ∙ form_read b i) ∙ ap report_bytes (lines_of i.lines) ∙ sym i.bytes

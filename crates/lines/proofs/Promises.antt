@@ -8,14 +8,10 @@ use lib.ListN.{length, get_or, take, drop}
 use mir.Val.{Fits}
 use mir.Syntax.{w8}
 use borrow.Author.Tests.{eq-eqb, ne_eqb}
-use Rattle.flows.specs.declared.Asked.{Asked}
-use Rattle.flows.specs.declared.Asked.TheVariants.{Given}
-use Rattle.flows.specs.declared.Asked.TheVariants as asked
-use Rattle.flows.specs.declared.Outcome.{Outcome}
-use Rattle.flows.specs.declared.Outcome.TheVariants.{Read}
-use Rattle.flows.specs.declared.Written.{Written}
-use Rattle.flows.specs.declared.Written.TheVariants.{Length}
-use Rattle.flows.specs.declared.Written.TheVariants as written
+use Rattle.flows.specs.declared.Cause.TheVariants.{ShortBuffer, Absent}
+use Rattle.flows.specs.declared.Figures.{Figures}
+use Rattle.flows.specs.declared.Refusal.{Refusal}
+use Rattle.std.specs.Prelude.{Result, Ok, Err}
 use Rattle.row.specs.Rows.{RisingBy, rising-more}
 use Rattle.records.specs.declared.Line.{Line}
 use Rattle.records.specs.Bodies.{Bytes}
@@ -47,8 +43,8 @@ module _ (s : Report) (old : List ℕ) where
     fits : report_length n ≤ length old
     fits = omega (arith, report-length n)
 
-    answer-long : report_written (length old) n ≡ Length (size s)
-    answer-long = sym (wrote_all (length old) (report_length n) fits) ∙ ap Length (report-length n)
+    answer-long : report_written (length old) n ≡ Ok (size s)
+    answer-long = sym (wrote_all (length old) (report_length n) fits) ∙ ap Ok (report-length n)
 
     begins : take (size s) (report_after (lines_in s) old) ≡ bytes
     begins = ap (λ (k : ℕ). take k (report_after (lines_in s) old)) (sym (report-length n)) ∙ buffer_begins bytes (report_length n) old long fits
@@ -62,7 +58,7 @@ module _ (s : Report) (old : List ℕ) where
     writes_back b e =
         let m : report_length n ≡ length b = sym long ∙ ap length e in
         record {
-          answer = sym (wrote_all (length old) (report_length n) fits) ∙ ap Length m;
+          answer = sym (wrote_all (length old) (report_length n) fits) ∙ ap Ok m;
           buffer = sym (buffer_filled bytes (report_length n) old fits) ∙ ap (λ (x : List ℕ). x ++ drop (report_length n) old) e ∙ ap (λ (k : ℕ). b ++ drop k old) m;
         }
 
@@ -70,22 +66,22 @@ module _ (s : Report) (old : List ℕ) where
     lacks : length old < report_length n
     lacks = omega (arith, report-length n)
 
-    answer-short : report_written (length old) n ≡ written.Refused (record { number = 13; flow = 0; place = 0 })
+    answer-short : report_written (length old) n ≡ Err (record { cause = ShortBuffer; place = 0 })
     answer-short = sym (wrote_short (length old) (report_length n) _ lacks refl)
 
   promised : InOrder s → ReportWritten s old (report_written (length old) n) (report_after (lines_in s) old)
   promised o = record {
     short = λ h. (answer-short h, sym (buffer_kept bytes (report_length n) old (lacks h)));
     long = λ h. (answer-long h, buffer_long bytes (report_length n) old long (fits h), rest h);
-    read = λ h. ap read_report (begins h) ∙ write_read (lines_in s) o.listable ∙ ap (λ (r : Report). record { outcome = Read; report = r }) (sym o.report);
+    read = λ h. ap read_report (begins h) ∙ write_read (lines_in s) o.listable ∙ ap (λ (r : Report). record { outcome = Ok tt; report = r }) (sym o.report);
     bytes = λ h b u e. begins h ∙ read_write b u s e;
   }
 
-pub write_promise : (s : Report) (old : List ℕ) (r : Written) (new : List ℕ) → r ≡ report_written (length old) (length (lines_in s)) →
+pub write_promise : (s : Report) (old : List ℕ) (r : Result ℕ Refusal) (new : List ℕ) → r ≡ report_written (length old) (length (lines_in s)) →
     new ≡ report_after (lines_in s) old → InOrder s → ReportWritten s old r new
 write_promise s old r new e g o =
     subst (λ (x : List ℕ). ReportWritten s old r x) (sym g)
-    (subst (λ (w : Written). ReportWritten s old w (report_after (lines_in s) old)) (sym e) (promised s old o))
+    (subst (λ (w : Result ℕ Refusal). ReportWritten s old w (report_after (lines_in s) old)) (sym e) (promised s old o))
 
 -- ---- reading
 reads : (b : List ℕ) → Bytes b → ReportRead b (read_report b)
@@ -99,10 +95,10 @@ reads b u = record {
   foreign = foreign_refused b u;
 }
   where
-    back : (read_report b).outcome ≡ Read → (old : List ℕ) → length b ≤ length old → WritesBack b (read_report b).report old
+    back : (read_report b).outcome ≡ Ok tt → (old : List ℕ) → length b ≤ length old → WritesBack b (read_report b).report old
     back h old l =
         let s = (read_report b).report in
-        let e = read_write b u s (ap (λ (o : Outcome). record { outcome = o; report = s }) h) in
+        let e = read_write b u s (ap (λ (o : Result (Unit {0}) Refusal). record { outcome = o; report = s }) h) in
         let m : size s ≡ length b = sym (report_long (lines_in s)) ∙ ap length e in
         writes_back s old (omega arith) b e
 
@@ -110,7 +106,7 @@ pub read_promise : (b : List ℕ) → ((k : ℕ) → Fits w8 (get_or b k 0)) →
 read_promise b f r e = subst (ReportRead b) (sym e) (reads b (bytes_fit b f))
 
 -- ---- asking
-pub asked_present : {n : ℕ} (ls : List Line) → RisingBy (λ m. m.number) n ls → (l : Line) → Memᴰ l ls → asked_in ls l.number ≡ Given l.figures
+pub asked_present : {n : ℕ} (ls : List Line) → RisingBy (λ m. m.number) n ls → (l : Line) → Memᴰ l ls → asked_in ls l.number ≡ Ok l.figures
 unfolding asked_in
 asked_present [] r l m = absurd (mathlib.Core.List.Memᴰ.not-nil m)
 asked_present (k ∷ ls) (rising-more h r) l m =
@@ -118,13 +114,13 @@ asked_present (k ∷ ls) (rising-more h r) l m =
     (λ (i : Memᴰ l ls). let g = above ls r i in rw (ne_eqb k.number l.number (λ e. omega arith)) (asked_present ls r l i)) (mathlib.Core.List.Memᴰ.cases_cons m)
 
 asked_absent : (ls : List Line) (number : ℕ) → ((l : Line) → Memᴰ l ls → l.number ≡ number → ⊥) →
-    asked_in ls number ≡ asked.Refused (record { number = 11; flow = 0; place = 0 })
+    asked_in ls number ≡ Err (record { cause = Absent; place = 0 })
 unfolding asked_in
 asked_absent [] number n = refl
 asked_absent (k ∷ ls) number n =
     rw (ne_eqb k.number number (n k (mathlib.Core.List.Memᴰ.head refl))) (asked_absent ls number (λ l m. n l (mathlib.Core.List.Memᴰ.tail m)))
 
-pub ask_promise : (s : Report) (number : ℕ) (r : Asked) → r ≡ asked_in (lines_in s) number → InOrder s → ReportAsked s number r
+pub ask_promise : (s : Report) (number : ℕ) (r : Result Figures Refusal) → r ≡ asked_in (lines_in s) number → InOrder s → ReportAsked s number r
 ask_promise s number r e o = record {
   present = λ l m h. e ∙ rw h at (asked_present (lines_in s) o.listable.rising l m);
   absent = λ n. e ∙ asked_absent (lines_in s) number n;

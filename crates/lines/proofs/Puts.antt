@@ -1,19 +1,18 @@
 -- Writing: what each record leaves in the buffer, and a law for each way out.
-use Prim.Native.Nat.{ℕ, suc, ◌+◌, ◌-◌, ◌*◌, ◌≤◌, ◌<◌}
+use Prim.Native.Nat.{ℕ, suc, ◌+◌, ◌*◌, ◌≤◌, ◌<◌}
 use mathlib.Core.Path.{◌≡◌, refl, ap, ◌∙◌, subst}
 use mathlib.Core.List.{List, [], ◌∷◌, ◌++◌}
 use native.Mathlib.Omega.{arith}
 use lib.ListN.{length, get_or, take, drop, set}
+use Rattle.std.specs.Prelude.{Ok, Err}
 use Rattle.flows.specs.declared.Refusal.{Refusal}
 use Rattle.flows.specs.declared.Cause.TheVariants.{ShortBuffer}
-use Rattle.flows.specs.declared.Written.TheVariants.{Length, Refused}
-use Rattle.flows.specs.Refusals.{refusal_of}
 use Rattle.flows.specs.WellFormed.{Each, each_none, each_more}
 use Rattle.records.specs.declared.Line.{Line}
-use Rattle.records.specs.Kinds.{count_kind, count_record, line_kind, line_body, line_record, close_kind}
+use Rattle.records.specs.Kinds.{count_kind, count_record, line_body, line_record, close_kind}
 use Rattle.records.specs.Bodies.{words_written, line_written}
 use Rattle.records.proofs.Rows as rows
-use Rattle.records.proofs.Rows.{record-put, row_long, Holds, holds_none, holds_next, buffer_kept, buffer_filled}
+use Rattle.records.proofs.Rows.{row_long, Holds, holds_none, holds_next, buffer_kept, buffer_filled}
 use Rattle.lines.specs.declared.Report.{Report}
 use Rattle.lines.specs.Reports.{lines_in}
 use Rattle.lines.specs.Writing.{count_bytes, line_bytes, lines_bytes, report_bytes, report_length, report_written, report_after}
@@ -23,11 +22,6 @@ use Rattle.lines.proofs.Arrays.{lines-all}
 pub body_long : (l : Line) → length (line_written l) ≡ line_body
 unfolding line_written words_written
 body_long l = refl
-
-pub line-put : (old body : List ℕ) (at : ℕ) (l : Line) → at + line_record ≤ length old → body ≡ line_written l →
-    take (at + 1) (set old at line_kind) ++ (body ++ drop (at + line_record - (at + 1)) (drop (at + 1) (set old at line_kind))) ≡
-    take at old ++ (line_bytes l ++ drop (at + line_record) old)
-line-put old body at l h e = rw e (record-put old (line_written l) at line_kind line_body h)
 
 count-put : (old : List ℕ) (n : ℕ) → count_record ≤ length old → set (set old 0 count_kind) 1 n ≡ count_bytes n ++ drop count_record old
 count-put [] n h = absurd (omega arith)
@@ -59,10 +53,10 @@ puts_end r old buf n k e z h = (subst (λ (ls : List Line). Lines old ls buf) (l
 
 -- ---- the whole report, with n lines of which the code knows the number as m
 module _ (space n m : ℕ) (e : m ≡ n) where
-  pub wrote_short : (r : Refusal) → space < report_length m → r ≡ refusal_of ShortBuffer 0 → Refused r ≡ report_written space n
+  pub wrote_short : (r : Refusal) → space < report_length m → r ≡ record { cause = ShortBuffer; place = 0 } → Err r ≡ report_written space n
   wrote_short r h g = rows.wrote_short space (report_length n) r (rw e at h) g
 
-  pub wrote_all : report_length m ≤ space → Length (report_length m) ≡ report_written space n
+  pub wrote_all : report_length m ≤ space → Ok (report_length m) ≡ report_written space n
   wrote_all h = rows.wrote_all space (report_length m) h ∙ ap (report_written space) e
 
 module _ (ls : List Line) (old : List ℕ) (m : ℕ) (e : m ≡ length ls) where

@@ -1,16 +1,10 @@
 -- What reading, writing and asking a report promise: RULES, the report, in words. The equations that callers use stand in Reports, Reading and Writing.
-use Rattle.std.specs.Prelude.{ℕ, ◌+◌, ◌*◌, ◌≤◌, ◌<◌, ◌≡◌, length, take, drop}
+use Rattle.flows.specs.declared.Refusal.{Refusal}
+use Rattle.std.specs.Prelude.{Result, Ok, Err, ℕ, ◌+◌, ◌*◌, ◌≤◌, ◌<◌, ◌≡◌, length, take, drop}
 use mathlib.Core.List.{List, [], ◌∷◌, ◌++◌, Memᴰ}
 use Rattle.flows.specs.declared.Figures.{Figures}
-use Rattle.flows.specs.declared.Asked.{Asked}
-use Rattle.flows.specs.declared.Asked.TheVariants.{Given}
-use Rattle.flows.specs.declared.Asked.TheVariants as asked
 use Rattle.flows.specs.declared.Cause.{Cause}
-use Rattle.flows.specs.declared.Cause.TheVariants.{OutOfRange, Malformed}
-use Rattle.flows.specs.declared.Outcome.TheVariants.{Read}
-use Rattle.flows.specs.declared.Outcome.TheVariants as outcome
-use Rattle.flows.specs.declared.Written.{Written}
-use Rattle.flows.specs.declared.Written.TheVariants.{Length, Refused}
+use Rattle.flows.specs.declared.Cause.TheVariants.{ShortBuffer, Absent, OutOfRange, Malformed}
 use Rattle.flows.specs.WellFormed.{Exactly, Each}
 use Rattle.row.specs.Rows.{RisingBy}
 use Rattle.records.specs.declared.Line.{Line}
@@ -52,7 +46,7 @@ pub record InForm (b : List ℕ) : Type 0 where
 
 -- whoever writes the report has these bytes at the start of the buffer, and the rest as it was
 pub record WritesBack (b : List ℕ) (r : Report) (old : List ℕ) : Type 0 where
-  pub answer : report_written (length old) (length (lines_in r)) ≡ Length (length b)
+  pub answer : report_written (length old) (length (lines_in r)) ≡ Ok (length b)
   pub buffer : report_after (lines_in r) old ≡ b ++ drop (length b) old
 
 -- ---- reading: what is refused
@@ -104,26 +98,26 @@ pub record Foreign (x : ℕ) : Type 0 where
   pub close : x ≡ close_kind → ⊥
 
 pub record ReportRead (b : List ℕ) (r : Reading) : Type 0 where
-  pub exactly : Exactly (r.outcome ≡ Read) (InForm b)
+  pub exactly : Exactly (r.outcome ≡ Ok tt) (InForm b)
   pub lists : (i : InForm b) → r.report ≡ report_of i.lines
-  pub back : r.outcome ≡ Read → (old : List ℕ) → length b ≤ length old → WritesBack b r.report old
-  pub refused : (cause : Cause) (place : ℕ) → Exactly (r.outcome ≡ outcome.Refused cause place) (Unread b cause place)
+  pub back : r.outcome ≡ Ok tt → (old : List ℕ) → length b ≤ length old → WritesBack b r.report old
+  pub refused : (cause : Cause) (place : ℕ) → Exactly (r.outcome ≡ Err (record { cause = cause; place = place })) (Unread b cause place)
   pub in_order : InOrder r.report
   -- nothing is shown of a refused report
-  pub empty : (r.outcome ≡ Read → ⊥) → r.report ≡ report_of []
+  pub empty : (r.outcome ≡ Ok tt → ⊥) → r.report ≡ report_of []
   -- a kind that a report does not have is refused wherever a record is looked for: a plan is, and what comes later is
-  pub foreign : (x place : ℕ) (rest : List ℕ) → Sought b (x ∷ rest) place → Foreign x → r.outcome ≡ outcome.Refused Malformed place
+  pub foreign : (x place : ℕ) (rest : List ℕ) → Sought b (x ∷ rest) place → Foreign x → r.outcome ≡ Err (record { cause = Malformed; place = place })
 
 -- ---- writing
 -- 13 and a buffer as it was, if it is short; otherwise the length, a buffer that keeps its rest, and whose beginning is read as that report
 -- and is any bytes from which the report was read
-pub record ReportWritten (s : Report) (old : List ℕ) (r : Written) (new : List ℕ) : Type 0 where
-  pub short : length old < size s → (r ≡ Refused (record { number = 13; flow = 0; place = 0 })) × (new ≡ old)
-  pub long : size s ≤ length old → (r ≡ Length (size s)) × (length new ≡ length old) × (drop (size s) new ≡ drop (size s) old)
-  pub read : size s ≤ length old → read_report (take (size s) new) ≡ record { outcome = Read; report = s }
-  pub bytes : size s ≤ length old → (b : List ℕ) → Bytes b → read_report b ≡ record { outcome = Read; report = s } → take (size s) new ≡ b
+pub record ReportWritten (s : Report) (old : List ℕ) (r : Result ℕ Refusal) (new : List ℕ) : Type 0 where
+  pub short : length old < size s → (r ≡ Err (record { cause = ShortBuffer; place = 0 })) × (new ≡ old)
+  pub long : size s ≤ length old → (r ≡ Ok (size s)) × (length new ≡ length old) × (drop (size s) new ≡ drop (size s) old)
+  pub read : size s ≤ length old → read_report (take (size s) new) ≡ record { outcome = Ok tt; report = s }
+  pub bytes : size s ≤ length old → (b : List ℕ) → Bytes b → read_report b ≡ record { outcome = Ok tt; report = s } → take (size s) new ≡ b
 
 -- ---- asking
-pub record ReportAsked (s : Report) (number : ℕ) (r : Asked) : Type 0 where
-  pub present : (l : Line) → Memᴰ l (lines_in s) → l.number ≡ number → r ≡ Given l.figures
-  pub absent : ((l : Line) → Memᴰ l (lines_in s) → l.number ≡ number → ⊥) → r ≡ asked.Refused (record { number = 11; flow = 0; place = 0 })
+pub record ReportAsked (s : Report) (number : ℕ) (r : Result Figures Refusal) : Type 0 where
+  pub present : (l : Line) → Memᴰ l (lines_in s) → l.number ≡ number → r ≡ Ok l.figures
+  pub absent : ((l : Line) → Memᴰ l (lines_in s) → l.number ≡ number → ⊥) → r ≡ Err (record { cause = Absent; place = 0 })

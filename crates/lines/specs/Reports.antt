@@ -1,9 +1,8 @@
 -- A report's array as a list of lines, and what asking it gives. RULES, tables.
-use Rattle.std.specs.Prelude.{ℕ, ◌+◌, ◌-◌, cond, List, [], ◌∷◌, ◌++◌, length, take, set, replicate, leb, eqb}
-use Rattle.flows.specs.declared.Asked.{Asked}
-use Rattle.flows.specs.declared.Asked.TheVariants.{Given, Refused}
+use Rattle.flows.specs.declared.Figures.{Figures}
+use Rattle.flows.specs.declared.Refusal.{Refusal}
+use Rattle.std.specs.Prelude.{Result, Ok, Err, ℕ, ◌+◌, ◌-◌, cond, List, [], ◌∷◌, ◌++◌, length, take, set, replicate, leb, eqb}
 use Rattle.flows.specs.declared.Cause.TheVariants.{Absent}
-use Rattle.flows.specs.Refusals.{refusal_of}
 use Rattle.flows.specs.Lists.{most_flows}
 use Rattle.records.specs.declared.Line.{Line}
 use Rattle.lines.specs.declared.Report.{Report}
@@ -23,6 +22,6 @@ unfoldable pub with_line : Report → Line → Report
 with_line r l = cond (leb most_flows r.count) r (record { lines = set r.lines r.count l; count = r.count + 1 })
 
 -- the figures of the first line of that number, or 11
-unfoldable pub asked_in : List Line → ℕ → Asked
-asked_in [] number = Refused (refusal_of Absent 0)
-asked_in (l ∷ ls) number = cond (eqb l.number number) (Given l.figures) (asked_in ls number)
+unfoldable pub asked_in : List Line → ℕ → Result Figures Refusal
+asked_in [] number = Err (record { cause = Absent; place = 0 })
+asked_in (l ∷ ls) number = cond (eqb l.number number) (Ok l.figures) (asked_in ls number)

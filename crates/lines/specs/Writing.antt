@@ -1,6 +1,6 @@
 -- Writing a report: the bytes, the answer, and what the buffer then holds. RULES, the report.
-use Rattle.std.specs.Prelude.{ℕ, ◌+◌, ◌*◌, List, [], ◌∷◌, ◌++◌, length}
-use Rattle.flows.specs.declared.Written.{Written}
+use Rattle.flows.specs.declared.Refusal.{Refusal}
+use Rattle.std.specs.Prelude.{Result, ℕ, ◌+◌, ◌*◌, List, [], ◌∷◌, ◌++◌, length}
 use Rattle.records.specs.declared.Line.{Line}
 use Rattle.records.specs.Kinds.{count_kind, count_record, line_kind, line_record, close_kind}
 use Rattle.records.specs.Bodies.{line_written}
@@ -24,7 +24,7 @@ abbrev pub report_length : ℕ → ℕ
 report_length n = count_record + line_record * n + 1
 
 -- 13, if the report does not fit
-abbrev pub report_written : ℕ → ℕ → Written
+abbrev pub report_written : ℕ → ℕ → Result ℕ Refusal
 report_written space n = size_written space (report_length n)
 
 -- the report, and behind it what was there; where it does not fit, all that was there

@@ -29,9 +29,9 @@ module _ (net weights : List ℕ) where
   climbs_start = record { steps = 65537; left = refl; enough = omega arith }
 
   -- y is the next length as the code works it out
-  pub climbs_on : (x : ℕ) → Climbs next x → (s t y : ℕ) → s ≡ load_by net (values weights) x → t ≡ max 1 s → y ≡ min 65536 t →
+  pub climbs_on : (x : ℕ) → Climbs next x → (s y : ℕ) → s ≡ load_by net (values weights) x → y ≡ max 1 (min s 65536) →
       x < 65536 → x < y → Climbs next y
-  climbs_on x inv s t y p q e l h = go inv.steps inv.left inv.enough
+  climbs_on x inv s y p e l h = go inv.steps inv.left inv.enough
     where
       go : (m : ℕ) → climb next m x ≡ climb next 65537 0 → 65537 ≤ x + m → Climbs next y
       go zero u v = absurd (omega arith)
@@ -52,9 +52,9 @@ module _ (net weights : List ℕ) where
         climb_same next (cap 65535 (floored 1 (load (net_in net) (flow_in net a))))
         (λ x. ap (λ y. min 65536 (max 1 y)) (weighed x ∙ load_whole net a on v x)) 65537 0
 
-    pub climbs_rest : (x : ℕ) → Climbs next x → (s t y : ℕ) → s ≡ load_by net (values weights) x → t ≡ max 1 s → y ≡ min 65536 t →
+    pub climbs_rest : (x : ℕ) → Climbs next x → (s y : ℕ) → s ≡ load_by net (values weights) x → y ≡ max 1 (min s 65536) →
         y ≤ x → Valid (net_in net) → x ≡ busy_length (net_in net) (flow_in net a)
-    climbs_rest x inv s t y p q e h v = sym (climb_stop next inv.steps x (omega arith)) ∙ inv.left ∙ busy-whole v
+    climbs_rest x inv s y p e h v = sym (climb_stop next inv.steps x (omega arith)) ∙ inv.left ∙ busy-whole v
 
     pub climbs_past : (x : ℕ) → Climbs next x → 65536 ≤ x → Valid (net_in net) → x ≡ busy_length (net_in net) (flow_in net a)
-    climbs_past x inv h = climbs_rest x inv _ _ _ refl refl refl (omega arith)
+    climbs_past x inv h = climbs_rest x inv _ _ refl refl (omega arith)

@@ -1,4 +1,3 @@
 -- The laws of `loads`.
 pub mod Whole
 pub mod Climb
-pub mod Turns

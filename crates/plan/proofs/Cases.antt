@@ -5,16 +5,17 @@ use mathlib.Core.Bool.{Bool, true, ◌&&◌}
 use mathlib.Core.List.{List, [], ◌∷◌, ◌++◌}
 use lib.ListN.{take, replicate}
 use lib.Dec.{eqb}
+use Rattle.std.specs.Prelude.{Result, Ok, Err}
 use Rattle.flows.specs.declared.Flow.{Flow}
-use Rattle.flows.specs.Refusals.{number_of}
+use Rattle.flows.specs.declared.Refusal.{Refusal}
 use Rattle.flows.specs.Lists.{row_of}
 use Rattle.flows.specs.Tests.{delay_cause, every, hop_fits, hop_zero, ranges_fit, distinct, flow_cause}
 use Rattle.row.specs.Rows.{last_number}
 use Rattle.records.specs.Bodies.{words_written, flow_written}
 use Rattle.records.specs.Rows.{row_bytes}
 use Rattle.reader.specs.Places.{kind_named, kind_of, kind_at, if_kind}
-use Rattle.flows.specs.Refusals.{cause_in, place_in}
-use Rattle.plan.specs.Reading.{refused, unless, falls_to, record_cause, read_end, read_flows, read_plan}
+use Rattle.flows.specs.Refusals.{number_of, place_in}
+use Rattle.plan.specs.Reading.{unless, falls_to, record_cause, read_end, read_flows, read_records, read_plan}
 use Rattle.plan.specs.Writing.{links_bytes, flow_bytes, plan_bytes}
 
 -- one node of that number and that cost; T 20, D 60
@@ -87,9 +88,14 @@ cases =
     record { bytes = listing (many 0 17); number = 6; place = 549 } ∷
     record { bytes = listing (many 0 16 ++ (flow 17 1 0 ∷ [])); number = 3; place = 549 } ∷ []
 
+-- 0 for none
+number_in : Result (Unit {0}) Refusal → ℕ
+number_in (Ok x) = 0
+number_in (Err r) = number_of r.cause
+
 right : Case → Bool
-right c = eqb (number_of (cause_in (read_plan c.bytes).outcome)) c.number && eqb (place_in (read_plan c.bytes).outcome) c.place
+right c = eqb (number_in (read_plan c.bytes).outcome) c.number && eqb (place_in (read_plan c.bytes).outcome) c.place
 
 all_right : every right cases ≡ true
-unfolding cases right listing flow twice many every plan_bytes row_bytes flow_written words_written read_plan kind_at kind_named kind_of unless refused delay_cause read_flows if_kind read_end record_cause falls_to last_number flow_cause ranges_fit hop_fits hop_zero distinct row_of
+unfolding cases right number_in listing flow twice many every plan_bytes row_bytes flow_written words_written read_records kind_at kind_named kind_of unless delay_cause read_flows if_kind read_end record_cause falls_to last_number flow_cause ranges_fit hop_fits hop_zero distinct row_of
 all_right = refl

@@ -7,15 +7,15 @@ use lib.ListN.{length, get_or, take, drop, length-append, length-drop}
 use lib.Seq.{take_at, drop_at}
 use mir.Val.{Fits}
 use mir.Syntax.{w8}
+use Rattle.flows.specs.declared.Cause.TheVariants.{ShortBuffer}
+use Rattle.flows.specs.declared.Refusal.{Refusal}
+use Rattle.std.specs.Prelude.{Result, Ok, Err}
 use Rattle.flows.specs.Lists.{held}
 use Rattle.records.specs.Bodies.{Bytes}
 use Rattle.records.proofs.RoundTrip.{bytes_fit}
 use Rattle.records.proofs.Rows.{wrote_short, wrote_all, buffer_kept, buffer_filled}
 use Rattle.plan.specs.declared.FlowSet.{FlowSet}
-use Rattle.flows.specs.declared.Outcome.{Outcome}
 use Rattle.plan.specs.declared.Reading.{Reading}
-use Rattle.flows.specs.declared.Written.{Written}
-use Rattle.flows.specs.declared.Written.TheVariants.{Length, Refused}
 use Rattle.plan.specs.Reading.{read_plan}
 use Rattle.plan.specs.Writing.{set_bytes, plan_length, written_into, buffer_after}
 use Rattle.plan.specs.Demands.{size, WasRead, WritesBack, SetRead, SetWritten}
@@ -31,19 +31,19 @@ module _ (s : FlowSet) (old : List ℕ) where
   abbrev after : List ℕ
   after = buffer_after s.lmin s.lmax (held s.row) old
 
-  abbrev answer : Written
+  abbrev answer : Result ℕ Refusal
   answer = written_into (length old) n
 
   module _ (h : length old < size s) where
-    short-answer : answer ≡ Refused (record { number = 13; flow = 0; place = 0 })
+    short-answer : answer ≡ Err (record { cause = ShortBuffer; place = 0 })
     short-answer = sym (wrote_short (length old) (plan_length n) _ (omega arith) refl)
 
     short-after : after ≡ old
     short-after = sym (buffer_kept (set_bytes s) (plan_length n) old (omega arith))
 
   module _ (h : size s ≤ length old) where
-    long-answer : answer ≡ Length (size s)
-    long-answer = sym (wrote_all (length old) (plan_length n) (omega arith)) ∙ ap Length (plan-length n)
+    long-answer : answer ≡ Ok (size s)
+    long-answer = sym (wrote_all (length old) (plan_length n) (omega arith)) ∙ ap Ok (plan-length n)
 
     long_after : after ≡ set_bytes s ++ drop (size s) old
     long_after = sym (buffer_filled (set_bytes s) (plan_length n) old (omega arith)) ∙ ap (λ (k : ℕ). set_bytes s ++ drop k old) (plan-length n)
@@ -77,14 +77,14 @@ module _ (s : FlowSet) (p : Proper s) where
         let m : size s ≡ length b = sym long ∙ ap length e in
         let k : size s ≤ length old = omega arith in
         record {
-          answer = long-answer s old k ∙ ap Length m;
+          answer = long-answer s old k ∙ ap Ok m;
           buffer = long_after s old k ∙ ap (λ (l : List ℕ). l ++ drop (size s) old) e ∙ ap (λ (j : ℕ). b ++ drop j old) m;
         }
 
-pub write_promise : (s : FlowSet) (old : List ℕ) (r : Written) (new : List ℕ) → r ≡ written_into (length old) (length (held s.row)) →
+pub write_promise : (s : FlowSet) (old : List ℕ) (r : Result ℕ Refusal) (new : List ℕ) → r ≡ written_into (length old) (length (held s.row)) →
     new ≡ buffer_after s.lmin s.lmax (held s.row) old → WasRead s → SetWritten s old r new
 write_promise s old r new e g w =
-    subst (λ (l : List ℕ). SetWritten s old r l) (sym g) (subst (λ (q : Written). SetWritten s old q (after s old)) (sym e) (written s (read_proper s w) old))
+    subst (λ (l : List ℕ). SetWritten s old r l) (sym g) (subst (λ (q : Result ℕ Refusal). SetWritten s old q (after s old)) (sym e) (written s (read_proper s w) old))
 
 module _ (b : List ℕ) (u : Bytes b) where
   was_read : WasRead (read_plan b).set
@@ -96,7 +96,7 @@ module _ (b : List ℕ) (u : Bytes b) where
     lists = λ i. ap (λ (r : Reading). r.set) (form_read b i);
     back =
         λ h old. writes_back (read_plan b).set (read_proper (read_plan b).set was_read) old b
-        (read_write b u (read_plan b).set (ap (λ (o : Outcome). record { outcome = o; set = (read_plan b).set }) h));
+        (read_write b u (read_plan b).set (ap (λ (o : Result (Unit {0}) Refusal). record { outcome = o; set = (read_plan b).set }) h));
     refused = unread_exact b u;
     empty = (place_inside b u).empty;
   }

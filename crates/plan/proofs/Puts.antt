@@ -1,36 +1,19 @@
 -- Writing: what each record leaves in the buffer, and a law for each way out.
-use Prim.Native.Nat.{ℕ, suc, ◌+◌, ◌-◌, ◌*◌, ◌≤◌, ◌<◌}
+use Prim.Native.Nat.{ℕ, ◌+◌, ◌*◌, ◌≤◌, ◌<◌}
 use mathlib.Core.Path.{◌≡◌, refl, ap, ◌∙◌, subst}
-use mathlib.Core.List.{List, [], ◌∷◌, ◌++◌}
-use native.Mathlib.Omega.{arith}
+use mathlib.Core.List.{List, ◌++◌}
 use lib.ListN.{length, get_or, take, drop, set}
+use Rattle.std.specs.Prelude.{Ok, Err}
 use Rattle.flows.specs.declared.Flow.{Flow}
 use Rattle.flows.specs.declared.Row.{Row}
 use Rattle.flows.specs.declared.Refusal.{Refusal}
 use Rattle.flows.specs.declared.Cause.TheVariants.{ShortBuffer}
-use Rattle.flows.specs.Refusals.{refusal_of}
 use Rattle.flows.specs.Lists.{held}
-use Rattle.records.specs.Kinds.{links_kind, links_record, flow_kind, flow_body, flow_record, end_kind}
-use Rattle.records.specs.Bodies.{links_written, flow_written}
-use Rattle.flows.specs.declared.Written.TheVariants.{Length, Refused}
+use Rattle.records.specs.Kinds.{links_record, flow_record, end_kind}
 use Rattle.plan.specs.Writing.{links_bytes, flow_bytes, flows_bytes, plan_bytes, plan_length, written_into, buffer_after}
 use Rattle.row.proofs.Arrays.{held_all}
 use Rattle.records.proofs.Rows as rows
-use Rattle.records.proofs.Rows.{record-put, Holds, holds_none, holds_next, buffer_kept, buffer_filled}
-
--- ---- a record: its kind by a store, its body by the part that was lent
-pub links-put : (old body : List ℕ) (lmin lmax : ℕ) → links_record ≤ length old → body ≡ links_written lmin lmax →
-    take 1 (set old 0 links_kind) ++ (body ++ drop (links_record - 1) (drop 1 (set old 0 links_kind))) ≡ links_bytes lmin lmax ++ drop links_record old
-links-put [] body lmin lmax h e = absurd (omega arith)
-links-put (x ∷ old) body lmin lmax h e = rw e
-
-pub flow-put : (old body : List ℕ) (at : ℕ) (f : Flow) → at + flow_record ≤ length old → body ≡ flow_written f →
-    take (at + 1) (set old at flow_kind) ++ (body ++ drop (at + flow_record - (at + 1)) (drop (at + 1) (set old at flow_kind))) ≡
-    take at old ++ (flow_bytes f ++ drop (at + flow_record) old)
-flow-put old body at f h e = rw e (record-put old (flow_written f) at flow_kind flow_body h)
-
-pub flow_long : (f : Flow) → length (flow_written f) ≡ flow_body → length (flow_bytes f) ≡ flow_record
-flow_long f h = ap suc h
+use Rattle.records.proofs.Rows.{Holds, holds_none, holds_next, buffer_kept, buffer_filled}
 
 -- ---- the records of the flows
 abbrev pub Flows : List ℕ → List Flow → List ℕ → Type 0
@@ -50,10 +33,10 @@ puts_end row old buf n k e z h = subst (λ (fs : List Flow). Flows old fs buf) (
 
 -- ---- the whole plan, with n flows of which the code knows the number as m
 module _ (space n m : ℕ) (e : m ≡ n) where
-  pub wrote_short : (r : Refusal) → space < plan_length m → r ≡ refusal_of ShortBuffer 0 → Refused r ≡ written_into space n
+  pub wrote_short : (r : Refusal) → space < plan_length m → r ≡ record { cause = ShortBuffer; place = 0 } → Err r ≡ written_into space n
   wrote_short r h g = rows.wrote_short space (plan_length n) r (rw e at h) g
 
-  pub wrote_all : plan_length m ≤ space → Length (plan_length m) ≡ written_into space n
+  pub wrote_all : plan_length m ≤ space → Ok (plan_length m) ≡ written_into space n
   wrote_all h = rows.wrote_all space (plan_length m) h ∙ ap (written_into space) e
 
 module _ (lmin lmax : ℕ) (fs : List Flow) (old : List ℕ) (m : ℕ) (e : m ≡ length fs) where

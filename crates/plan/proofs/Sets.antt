@@ -3,6 +3,8 @@ use Prim.Native.Nat.{ℕ}
 use mathlib.Core.Path.{◌≡◌, refl, sym, ap, ◌∙◌, subst}
 use mathlib.Core.List.{List, []}
 use native.Mathlib.Omega.{arith}
+use Rattle.flows.specs.declared.Refusal.{Refusal}
+use Rattle.std.specs.Prelude.{Result, Ok, Err}
 use Rattle.flows.specs.declared.Flow.{Flow}
 use Rattle.flows.specs.declared.Row.{Row}
 use Rattle.flows.specs.Lists.{held, row_of}
@@ -12,8 +14,6 @@ use Rattle.row.proofs.Valid.{readable_none}
 use Rattle.records.specs.Bodies.{Bytes}
 use Rattle.reader.proofs.Places.{impossible}
 use Rattle.plan.specs.declared.FlowSet.{FlowSet}
-use Rattle.flows.specs.declared.Outcome.{Outcome}
-use Rattle.flows.specs.declared.Outcome.TheVariants.{Read, Refused}
 use Rattle.plan.specs.declared.Reading.{Reading}
 use Rattle.plan.specs.Reading.{read_plan}
 use Rattle.plan.specs.Writing.{plan_bytes, set_bytes}
@@ -37,21 +37,21 @@ proper_of lmin lmax fs r = record {
 pub read_proper : (s : FlowSet) → WasRead s → Proper s
 read_proper s w = subst Proper w.given (go (read_plan w.bytes).outcome refl)
   where
-    go : (o : Outcome) → (read_plan w.bytes).outcome ≡ o → Proper (read_plan w.bytes).set
-    go Read e =
+    go : (o : Result (Unit {0}) Refusal) → (read_plan w.bytes).outcome ≡ o → Proper (read_plan w.bytes).set
+    go (Ok x) e =
         let i = plan_form w.bytes w.fit e in
         subst (λ (r : Reading). Proper r.set) (sym (form_read w.bytes i)) (proper_of i.lmin i.lmax i.flows i.readable)
-    go (Refused cause place) e =
+    go (Err r) e =
         subst Proper (sym ((place_inside w.bytes w.fit).empty (λ g. impossible (cc)))) (proper_of 0 0 [] (readable_none 0 0 (omega arith, omega arith)))
 
 -- What is read and then written is the bytes that were read
-pub read_write : (b : List ℕ) → Bytes b → (s : FlowSet) → read_plan b ≡ record { outcome = Read; set = s } → set_bytes s ≡ b
+pub read_write : (b : List ℕ) → Bytes b → (s : FlowSet) → read_plan b ≡ record { outcome = Ok tt; set = s } → set_bytes s ≡ b
 read_write b u s e =
     let i = plan_form b u (ap (λ (r : Reading). r.outcome) e) in
     ap (λ (r : Reading). set_bytes r.set) (sym e ∙ form_read b i) ∙ ap (plan_bytes i.lmin i.lmax) (held-row_of i.flows) ∙ sym i.bytes
 
 -- What is written and then read is the set that was written
-pub write_read-set : (s : FlowSet) → Proper s → read_plan (set_bytes s) ≡ record { outcome = Read; set = s }
+pub write_read-set : (s : FlowSet) → Proper s → read_plan (set_bytes s) ≡ record { outcome = Ok tt; set = s }
 write_read-set s p =
     write_read s.lmin s.lmax (held s.row) p.readable ∙
-    ap (λ (w : Row). record { outcome = Read; set = record { lmin = s.lmin; lmax = s.lmax; row = w } }) (sym p.row)
+    ap (λ (w : Row). record { outcome = Ok tt; set = record { lmin = s.lmin; lmax = s.lmax; row = w } }) (sym p.row)

@@ -8,10 +8,12 @@ use native.Mathlib.Omega.{arith}
 use lib.ListN.{length, length-append}
 use lib.Dec.{leb, eqb}
 use borrow.Author.Tests.{eqb-true, eqb-false, lt-ltb, le-leb, leb-true, leb-false}
+use Rattle.std.specs.Prelude.{Ok, Err, Some}
 use Rattle.flows.specs.declared.Flow.{Flow}
+use Rattle.flows.specs.declared.Refusal.{Refusal}
 use Rattle.flows.specs.declared.Cause.{Cause}
-use Rattle.flows.specs.declared.Cause.TheVariants.{Accepted, Delays, Full, Malformed}
-use Rattle.flows.specs.Refusals.{accepted_by}
+use Rattle.flows.specs.declared.Cause.TheVariants.{Delays, Full, Malformed}
+use Rattle.flows.specs.Refusals.{Ruling, accepted, first_cause, place_in}
 use Rattle.flows.specs.Lists.{most_flows}
 use Rattle.flows.specs.Tests.{delay_cause, flow_cause}
 use Rattle.flows.specs.WellFormed.{Exactly, WellFormed, OfDelays, delays-fit, delays_unfit, Typed}
@@ -19,15 +21,12 @@ use Rattle.row.specs.Rows.{last_number}
 use Rattle.records.specs.Kinds.{links_record, flow_record, end_kind}
 use Rattle.records.specs.Bodies.{Bytes}
 use Rattle.records.specs.Rows.{row_bytes}
-use Rattle.reader.specs.declared.Kind.TheVariants.{OfLinks, OfFlow, OfEnd}
+use Rattle.reader.specs.declared.Kind.TheVariants as kind
 use Rattle.reader.specs.Places.{kind_at}
 use Rattle.plan.specs.declared.Reading.{Reading}
-use Rattle.flows.specs.declared.Outcome.TheVariants.{Read, Refused}
-use Rattle.flows.specs.Refusals.{cause_in, place_in}
-use Rattle.plan.specs.Reading.{empty_set, flow_at, refused, unless, falls_to, record_cause, read_after_links, read_plan}
+use Rattle.plan.specs.Reading.{Listing, empty_set, flow_at, refused, reading_of, unless, falls_to, record_cause, read_after_links, read_records, read_plan}
 use Rattle.plan.specs.Writing.{links_bytes, flow_bytes, flows_bytes, plan_bytes, plan_length}
 use Rattle.plan.specs.Demands.{InForm, StartsLinks, StartsFlow, StartsEnd, After, OfRecord, not-rising, by_itself, no_room, Unread, no-links, unfit-links, no_record, of-flow, after-end}
-use Rattle.flows.proofs.Causes.{accepted_only, not_accepted, refused-never}
 use Rattle.flows.proofs.Passed.{delays_exact, flow_exact, formed, formed_passes}
 use Rattle.row.proofs.Arrays.{length_snoc}
 use Rattle.row.proofs.Longer.{rising_snoc, each_snoc}
@@ -35,9 +34,9 @@ use Rattle.row.proofs.Valid.{readable_none}
 use Rattle.records.proofs.Writing.{length-flow}
 use Rattle.reader.proofs.Places.{is_kind, impossible}
 use Rattle.reader.proofs.Records.{first_byte}
-use Rattle.plan.proofs.Steps.{falls-zero, falls_not, falls-order, flows_at_other, flows_at_end, flows_at_flow, plan_at_other}
+use Rattle.plan.proofs.Steps.{falls-zero, falls_not, falls-order, flows_at_other, flows_at_end, flows_at_flow, records_at_other}
 use Rattle.records.proofs.Rows.{row_snoc}
-use Rattle.plan.proofs.Trips.{number_last, end_here, end_starts, flow_here_lem, flow_same, flow_starts, links_starts, links_here, plan_starts, after_rest, read_after, form_read, flows_long}
+use Rattle.plan.proofs.Trips.{number_last, end_here, end_starts, flow_here_lem, flow_same, flow_starts, links_starts, links_here, records_start, after_rest, read_after, form_read, flows_long}
 
 -- ---- a flow's record: accepted, or refused as the words say
 record Taken (fs : List Flow) (f : Flow) : Type 0 where
@@ -45,36 +44,36 @@ record Taken (fs : List Flow) (f : Flow) : Type 0 where
   rises : last_number fs < f.number
   room : length fs < most_flows
 
-module _ (fs : List Flow) (f : Flow) (t : Typed f) where
-  of_record : Taken fs f ⊎ OfRecord fs f (record_cause fs f)
-  unfolding record_cause falls_to
-  of_record = go (eqb f.number 0) (leb f.number (last_number fs)) (accepted_by (flow_cause f)) (leb most_flows (length fs)) refl refl refl refl
-    where
-      itself : accepted_by (flow_cause f) ≡ false → (f.number ≡ 0) ⊎ (last_number fs < f.number) → OfRecord fs f (flow_cause f)
-      itself k o = by_itself (flow_cause f) o (refused-never (flow_cause f) k) ((flow_exact f t (flow_cause f)).0 refl)
+data Ruled (fs : List Flow) (f : Flow) : Ruling → Type 0 where
+  taken : Taken fs f → Ruled fs f accepted
+  refuses : (c : Cause) → OfRecord fs f c → Ruled fs f (Err c)
 
-      go : (o p q r : Bool) → eqb f.number 0 ≡ o → leb f.number (last_number fs) ≡ p → accepted_by (flow_cause f) ≡ q →
-          leb most_flows (length fs) ≡ r →
-          Taken fs f ⊎ OfRecord fs f (cond (not o && p) Malformed (cond q (cond r Full Accepted) (flow_cause f)))
-      go false true q r i j k l = inr (not-rising (eqb-false _ _ i) (leb-true _ _ j))
-      go true p false r i j k l = inr (itself k (inl (eqb-true _ _ i)))
-      go false false false r i j k l = inr (itself k (inr (leb-false _ _ j)))
-      go true p true r i j k l =
-          let n = (formed f t (accepted_only (flow_cause f) k)).number.0 in
+module _ (fs : List Flow) (f : Flow) (t : Typed f) where
+  of_record : Ruled fs f (record_cause fs f)
+  unfolding record_cause falls_to
+  of_record = go (eqb f.number 0) (leb f.number (last_number fs)) (flow_cause f) (leb most_flows (length fs)) refl refl refl refl
+    where
+      go : (o p : Bool) (q : Ruling) (r : Bool) → eqb f.number 0 ≡ o → leb f.number (last_number fs) ≡ p → flow_cause f ≡ q →
+          leb most_flows (length fs) ≡ r → Ruled fs f (cond (not o && p) (Err Malformed) (first_cause q (cond r (Err Full) accepted)))
+      go false true q r i j k l = refuses Malformed (not-rising (eqb-false _ _ i) (leb-true _ _ j))
+      go true p (Err c) r i j k l = refuses c (by_itself c (inl (eqb-true _ _ i)) ((flow_exact f t (Err c)).0 k))
+      go false false (Err c) r i j k l = refuses c (by_itself c (inr (leb-false _ _ j)) ((flow_exact f t (Err c)).0 k))
+      go true p (Ok tt) r i j k l =
+          let n = (formed f t k).number.0 in
           let z = eqb-true f.number 0 i in
           absurd (omega arith)
-      go false false true true i j k l = inr (no_room (leb-false _ _ j) (formed f t (accepted_only (flow_cause f) k)) (leb-true _ _ l))
-      go false false true false i j k l = inl (record { flow = formed f t (accepted_only (flow_cause f) k); rises = leb-false _ _ j; room = leb-false _ _ l })
+      go false false (Ok tt) true i j k l = refuses Full (no_room (leb-false _ _ j) (formed f t k) (leb-true _ _ l))
+      go false false (Ok tt) false i j k l = taken (record { flow = formed f t k; rises = leb-false _ _ j; room = leb-false _ _ l })
 
   rises_in : (f.number ≡ 0) ⊎ (last_number fs < f.number) → falls_to f.number (last_number fs) ≡ false
   rises_in (inl h) = sym (falls-zero f.number (last_number fs) h)
   rises_in (inr h) = sym (falls_not f.number (last_number fs) h)
 
-  record-only : (c : Cause) → OfRecord fs f c → (record_cause fs f ≡ c) × (accepted_by c ≡ false)
+  record-only : (c : Cause) → OfRecord fs f c → record_cause fs f ≡ Err c
   unfolding record_cause
-  record-only c (not-rising n h) = (rw (← falls-order f.number (last_number fs) n, le-leb _ _ h), refl)
-  record-only c (by_itself d o n x) = let e = not_accepted d n in (rw (rises_in o, (flow_exact f t d).1 x, e), e)
-  record-only c (no_room h w g) = (rw (rises_in (inr h), formed_passes f t w, le-leb _ _ g), refl)
+  record-only c (not-rising n h) = rw (← falls-order f.number (last_number fs) n, le-leb _ _ h)
+  record-only c (by_itself d o x) = rw (rises_in o, (flow_exact f t (Err d)).1 x)
+  record-only c (no_room h w g) = rw (rises_in (inr h), formed_passes f t w, le-leb _ _ g)
 
 -- ---- the records that are not refused, and one more
 module _ {b : List ℕ} {fs : List Flow} {at : ℕ} {rest : List ℕ} (a : After b fs at rest) where
@@ -120,12 +119,11 @@ data Decided (b : List ℕ) : Type 0 where
 -- what goes with a refusal
 pub record Inside (b : List ℕ) (r : Reading) : Type 0 where
   pub place : (place_in r.outcome ≤ length b) × (place_in r.outcome ≤ plan_length most_flows)
-  pub refuses : (r.outcome ≡ Read → ⊥) → accepted_by (cause_in r.outcome) ≡ false
-  pub empty : (r.outcome ≡ Read → ⊥) → r.set ≡ empty_set
+  pub empty : (r.outcome ≡ Ok tt → ⊥) → r.set ≡ empty_set
 
 module _ (b : List ℕ) (u : Bytes b) where
   module _ {fs : List Flow} {at : ℕ} {rest : List ℕ} (a : After b fs at rest) where
-    other : (kind_at b at ≡ OfEnd → ⊥) → (kind_at b at ≡ OfFlow → ⊥) → Decided b
+    other : (kind_at b at ≡ Some kind.End → ⊥) → (kind_at b at ≡ Some kind.Flow → ⊥) → Decided b
     other n m = unread Malformed at (no_record fs at rest a (λ f s. m (flow_here_lem b at (after_rest a) s)) (λ s. n (end_here b at (after_rest a) s)))
 
     ended : (x : List ℕ) → rest ≡ end_kind ∷ x → Decided b
@@ -141,13 +139,13 @@ module _ (b : List ℕ) (u : Bytes b) where
     ended (x ∷ y) e = unread Malformed (at + 1) (after-end fs at x y (subst (After b fs at) e a))
 
     record-decided : ((f : Flow) (s : StartsFlow rest f) → Taken fs f → Decided b) → Decided b
-    record-decided next = go (is_kind (kind_at b at) OfFlow) (is_kind (kind_at b at) OfEnd)
+    record-decided next = go (is_kind (kind_at b at) kind.Flow) (is_kind (kind_at b at) kind.End)
       where
-        tested : StartsFlow rest (flow_at b at) → Taken fs (flow_at b at) ⊎ OfRecord fs (flow_at b at) (record_cause fs (flow_at b at)) → Decided b
-        tested s (inl k) = next (flow_at b at) s k
-        tested s (inr o) = unread _ at (of-flow fs at rest (flow_at b at) _ a s o)
+        tested : {r : Ruling} → StartsFlow rest (flow_at b at) → Ruled fs (flow_at b at) r → Decided b
+        tested s (taken k) = next (flow_at b at) s k
+        tested s (refuses c o) = unread c at (of-flow fs at rest (flow_at b at) c a s o)
 
-        go : (kind_at b at ≡ OfFlow) ⊎ (kind_at b at ≡ OfFlow → ⊥) → (kind_at b at ≡ OfEnd) ⊎ (kind_at b at ≡ OfEnd → ⊥) → Decided b
+        go : (kind_at b at ≡ Some kind.Flow) ⊎ (kind_at b at ≡ Some kind.Flow → ⊥) → (kind_at b at ≡ Some kind.End) ⊎ (kind_at b at ≡ Some kind.End → ⊥) → Decided b
         go (inl h) o = let s = flow_starts b at (after_rest a) u h in tested s (of_record fs (flow_at b at) s.typed)
         go (inr n) (inl h) = let s = end_starts b at (after_rest a) h in ended s.rest s.bytes
         go (inr n) (inr m) = other m n
@@ -160,7 +158,7 @@ module _ (b : List ℕ) (u : Bytes b) where
   unfolding row_bytes
   links-decided lmin lmax s = go (delay_cause lmin lmax) refl ((delays_exact lmin lmax (delay_cause lmin lmax)).0 refl)
     where
-      go : (c : Cause) → delay_cause lmin lmax ≡ c → OfDelays lmin lmax c → Decided b
+      go : (c : Ruling) → delay_cause lmin lmax ≡ c → OfDelays lmin lmax c → Decided b
       go c e (delays_unfit n) = unread Delays 0 (unfit-links lmin lmax s n)
       go c e (delays-fit h) =
           after-decided most_flows {fs = []} {at = links_record} {rest = s.rest} refl (record {
@@ -172,37 +170,29 @@ module _ (b : List ℕ) (u : Bytes b) where
           })
 
   decided : Decided b
-  decided = go (is_kind (kind_at b 0) OfLinks)
+  decided = go (is_kind (kind_at b 0) kind.Links)
     where
-      go : (kind_at b 0 ≡ OfLinks) ⊎ (kind_at b 0 ≡ OfLinks → ⊥) → Decided b
+      go : (kind_at b 0 ≡ Some kind.Links) ⊎ (kind_at b 0 ≡ Some kind.Links → ⊥) → Decided b
       go (inl h) = links-decided _ _ (links_starts b u h)
       go (inr n) = unread Malformed 0 (no-links (λ l m s. n (links_here b l m s)))
 
   -- ---- what the words say is given
-  gives : (c : Cause) (place : ℕ) → Unread b c place → read_plan b ≡ refused c place
+  gives : (c : Cause) (place : ℕ) → Unread b c place → read_records b ≡ refused c place
   unfolding unless
-  gives c place (no-links n) = plan_at_other b (λ h. n _ _ (links_starts b u h))
+  gives c place (no-links n) = records_at_other b (λ h. n _ _ (links_starts b u h))
   gives c place (unfit-links lmin lmax s n) =
-      plan_starts b lmin lmax s ∙ ap (λ (d : Cause). unless d 0 (read_after_links lmin lmax b)) ((delays_exact lmin lmax Delays).1 (delays_unfit n))
+      records_start b lmin lmax s ∙ ap (λ (d : Ruling). unless d 0 (read_after_links lmin lmax b)) ((delays_exact lmin lmax (Err Delays)).1 (delays_unfit n))
   gives c place (no_record fs at rest a n m) =
       read_after a ∙ flows_at_other _ _ _ fs b at (λ h. n _ (flow_starts b at (after_rest a) u h)) (λ h. m (end_starts b at (after_rest a) h))
   gives c place (of-flow fs at rest f d a s o) =
-      let q = record-only fs f s.typed d o in
-      let e : record_cause fs (flow_at b at) ≡ d = ap (record_cause fs) (flow_same b at (after_rest a) s) ∙ q.0 in
-      read_after a ∙ flows_at_flow _ _ _ fs b at (flow_here_lem b at (after_rest a) s) ∙ rw (e, q.1)
+      let e : record_cause fs (flow_at b at) ≡ Err d = ap (record_cause fs) (flow_same b at (after_rest a) s) ∙ record-only fs f s.typed d o in
+      read_after a ∙ flows_at_flow _ _ _ fs b at (flow_here_lem b at (after_rest a) s) ∙ rw e
   gives c place (after-end fs at x y a) =
       let s : StartsEnd (end_kind ∷ x ∷ y) = record { rest = x ∷ y; bytes = refl } in
       let h : at + 1 < length b = omega (arith, (first_byte b at (after_rest a) end_kind (x ∷ y) refl).1) in
       read_after a ∙ flows_at_end _ _ _ fs b at (end_here b at (after_rest a) s) ∙ rw (lt-ltb (at + 1) (length b) h)
 
-  -- the cause refuses; the place is within the plan or at its end, and within the longest plan whatever is read
-  refuses : (c : Cause) (place : ℕ) → Unread b c place → accepted_by c ≡ false
-  refuses c place (no-links n) = refl
-  refuses c place (unfit-links lmin lmax s n) = refl
-  refuses c place (no_record fs at rest a n m) = refl
-  refuses c place (of-flow fs at rest f d a s o) = (record-only fs f s.typed d o).1
-  refuses c place (after-end fs at x y a) = refl
-
+  -- the place is within the plan or at its end, and within the longest plan whatever is read
   inside : (c : Cause) (place : ℕ) → Unread b c place → (place ≤ length b) × (place ≤ plan_length most_flows)
   inside c place (no-links n) = (omega arith, omega arith)
   inside c place (unfit-links lmin lmax s n) = (omega arith, omega arith)
@@ -210,24 +200,22 @@ module _ (b : List ℕ) (u : Bytes b) where
   inside c place (of-flow fs at rest f d a s o) = let h = after-inside a in (omega (arith, h.0), omega (arith, h.1))
   inside c place (after-end fs at x y a) = let h = after-inside a in (omega (arith, h.0), omega (arith, h.1))
 
-  outcome-of : (c : Cause) (place : ℕ) → Unread b c place → (read_plan b).outcome ≡ Refused c place
-  unfolding refused
-  outcome-of c place n = ap (λ (r : Reading). r.outcome) (gives c place n)
+  outcome-of : (c : Cause) (place : ℕ) → Unread b c place → (read_plan b).outcome ≡ Err (record { cause = c; place = place })
+  outcome-of c place n = ap (λ (l : Listing). (reading_of l).outcome) (gives c place n)
 
   -- With a refusal goes the empty set
   pub place_inside : Inside b (read_plan b)
-  unfolding refused
   place_inside = go decided
     where
       go : Decided b → Inside b (read_plan b)
       go (in_form i) =
           subst (Inside b) (sym (form_read b i))
-          (record { place = (omega arith, omega arith); refuses = λ never. absurd (never refl); empty = λ never. absurd (never refl) })
+          (record { place = (omega arith, omega arith); empty = λ never. absurd (never refl) })
       go (unread c place n) =
-          subst (Inside b) (sym (gives c place n)) (record { place = inside c place n; refuses = λ never. refuses c place n; empty = λ never. refl })
+          subst (λ (l : Listing). Inside b (reading_of l)) (sym (gives c place n)) (record { place = inside c place n; empty = λ never. refl })
 
   -- What is read is in form
-  pub plan_form : (read_plan b).outcome ≡ Read → InForm b
+  pub plan_form : (read_plan b).outcome ≡ Ok tt → InForm b
   plan_form h = go decided
     where
       go : Decided b → InForm b
@@ -235,13 +223,14 @@ module _ (b : List ℕ) (u : Bytes b) where
       go (unread c place n) = let e = outcome-of c place n in impossible (cc)
 
   -- What is refused is refused as the words say, and exactly then
-  pub unread_exact : (c : Cause) (place : ℕ) → Exactly ((read_plan b).outcome ≡ Refused c place) (Unread b c place)
+  pub unread_exact : (c : Cause) (place : ℕ) → Exactly ((read_plan b).outcome ≡ Err (record { cause = c; place = place })) (Unread b c place)
   unread_exact c place = (λ h. go h decided, outcome-of c place)
     where
-      go : (read_plan b).outcome ≡ Refused c place → Decided b → Unread b c place
+      go : (read_plan b).outcome ≡ Err (record { cause = c; place = place }) → Decided b → Unread b c place
       go h (in_form i) = let e = ap (λ (r : Reading). r.outcome) (form_read b i) in impossible (cc)
       go h (unread d at n) =
           let e = outcome-of d at n in
-          let p : d ≡ c = cc in
-          let q : at ≡ place = cc in
+          let m : ◌≡◌ {A = Refusal} (record { cause = d; place = at }) (record { cause = c; place = place }) = cc in
+          let p : d ≡ c = ap (λ (r : Refusal). r.cause) m in
+          let q : at ≡ place = ap (λ (r : Refusal). r.place) m in
           rw (p, q) at n

@@ -1,8 +1,9 @@
 -- What reading and writing a set promise: RULES, reading and writing, in words. The equations that callers use stand in Reading and Writing.
-use Rattle.std.specs.Prelude.{ℕ, ◌+◌, ◌*◌, ◌≤◌, ◌<◌, ◌≡◌, List, ◌∷◌, ◌++◌, ◌⊎◌, length, take, drop}
+use Rattle.flows.specs.declared.Refusal.{Refusal}
+use Rattle.std.specs.Prelude.{Result, Ok, Err, ℕ, ◌+◌, ◌*◌, ◌≤◌, ◌<◌, ◌≡◌, List, ◌∷◌, ◌++◌, ◌⊎◌, length, take, drop}
 use Rattle.flows.specs.declared.Flow.{Flow}
 use Rattle.flows.specs.declared.Cause.{Cause}
-use Rattle.flows.specs.declared.Cause.TheVariants.{Accepted, Delays, Full, Malformed}
+use Rattle.flows.specs.declared.Cause.TheVariants.{ShortBuffer, Delays, Full, Malformed}
 use Rattle.flows.specs.Lists.{held, row_of}
 use Rattle.flows.specs.WellFormed.{Exactly, DelaysFit, WellFormed, OfFlow, Typed}
 use Rattle.row.specs.Rows.{last_number}
@@ -10,11 +11,7 @@ use Rattle.row.specs.Sets.{Readable}
 use Rattle.records.specs.Kinds.{end_kind}
 use Rattle.records.specs.Bodies.{Bytes}
 use Rattle.plan.specs.declared.FlowSet.{FlowSet}
-use Rattle.flows.specs.declared.Outcome.TheVariants.{Read}
-use Rattle.flows.specs.declared.Outcome.TheVariants as outcome
 use Rattle.plan.specs.declared.Reading.{Reading}
-use Rattle.flows.specs.declared.Written.{Written}
-use Rattle.flows.specs.declared.Written.TheVariants.{Length, Refused}
 use Rattle.plan.specs.Reading.{empty_set, read_plan}
 use Rattle.plan.specs.Writing.{links_bytes, flow_bytes, flows_bytes, plan_bytes, written_into, buffer_after}
 
@@ -39,7 +36,7 @@ pub record InForm (b : List ℕ) : Type 0 where
 
 -- whoever writes the set has these bytes at the start of the buffer, and the rest as it was
 pub record WritesBack (b : List ℕ) (s : FlowSet) (old : List ℕ) : Type 0 where
-  pub answer : written_into (length old) (length (held s.row)) ≡ Length (length b)
+  pub answer : written_into (length old) (length (held s.row)) ≡ Ok (length b)
   pub buffer : buffer_after s.lmin s.lmax (held s.row) old ≡ b ++ drop (length b) old
 
 -- ---- reading: what is refused
@@ -70,7 +67,7 @@ pub record After (b : List ℕ) (fs : List Flow) (place : ℕ) (rest : List ℕ)
 -- a flow's record after those of fs: 12 for a number that does not rise, then 2, 3, 4, then 6; number 0 is no matter of order
 pub data OfRecord (fs : List Flow) (f : Flow) : Cause → Type 0 where
   not-rising : (f.number ≡ 0 → ⊥) → f.number ≤ last_number fs → OfRecord fs f Malformed
-  by_itself : (c : Cause) → (f.number ≡ 0) ⊎ (last_number fs < f.number) → (c ≡ Accepted → ⊥) → OfFlow f c → OfRecord fs f c
+  by_itself : (c : Cause) → (f.number ≡ 0) ⊎ (last_number fs < f.number) → OfFlow f (Err c) → OfRecord fs f c
   no_room : last_number fs < f.number → WellFormed f → 16 ≤ length fs → OfRecord fs f Full
 
 -- the first record that is refused, and where; a byte after the end is refused at its own place
@@ -82,18 +79,18 @@ pub data Unread (b : List ℕ) : Cause → ℕ → Type 0 where
   after-end : (fs : List Flow) (place x : ℕ) (rest : List ℕ) → After b fs place (end_kind ∷ x ∷ rest) → Unread b Malformed (place + 1)
 
 pub record SetRead (b : List ℕ) (r : Reading) : Type 0 where
-  pub exactly : Exactly (r.outcome ≡ Read) (InForm b)
+  pub exactly : Exactly (r.outcome ≡ Ok tt) (InForm b)
   pub lists : (i : InForm b) → r.set ≡ record { lmin = i.lmin; lmax = i.lmax; row = row_of i.flows }
-  pub back : r.outcome ≡ Read → (old : List ℕ) → length b ≤ length old → WritesBack b r.set old
-  pub refused : (cause : Cause) (place : ℕ) → Exactly (r.outcome ≡ outcome.Refused cause place) (Unread b cause place)
+  pub back : r.outcome ≡ Ok tt → (old : List ℕ) → length b ≤ length old → WritesBack b r.set old
+  pub refused : (cause : Cause) (place : ℕ) → Exactly (r.outcome ≡ Err (record { cause = cause; place = place })) (Unread b cause place)
   -- none of a refused plan is given
-  pub empty : (r.outcome ≡ Read → ⊥) → r.set ≡ empty_set
+  pub empty : (r.outcome ≡ Ok tt → ⊥) → r.set ≡ empty_set
 
 -- ---- writing
 -- 13 and a buffer as it was, if it is short; otherwise the length, a buffer that keeps its rest, and whose beginning is read as that set and
 -- is any plan from which the set was read
-pub record SetWritten (s : FlowSet) (old : List ℕ) (r : Written) (new : List ℕ) : Type 0 where
-  pub short : length old < size s → (r ≡ Refused (record { number = 13; flow = 0; place = 0 })) × (new ≡ old)
-  pub long : size s ≤ length old → (r ≡ Length (size s)) × (length new ≡ length old) × (drop (size s) new ≡ drop (size s) old)
-  pub read : size s ≤ length old → read_plan (take (size s) new) ≡ record { outcome = Read; set = s }
-  pub plan : size s ≤ length old → (b : List ℕ) → Bytes b → read_plan b ≡ record { outcome = Read; set = s } → take (size s) new ≡ b
+pub record SetWritten (s : FlowSet) (old : List ℕ) (r : Result ℕ Refusal) (new : List ℕ) : Type 0 where
+  pub short : length old < size s → (r ≡ Err (record { cause = ShortBuffer; place = 0 })) × (new ≡ old)
+  pub long : size s ≤ length old → (r ≡ Ok (size s)) × (length new ≡ length old) × (drop (size s) new ≡ drop (size s) old)
+  pub read : size s ≤ length old → read_plan (take (size s) new) ≡ record { outcome = Ok tt; set = s }
+  pub plan : size s ≤ length old → (b : List ℕ) → Bytes b → read_plan b ≡ record { outcome = Ok tt; set = s } → take (size s) new ≡ b

@@ -1,12 +1,12 @@
 -- Writing a plan: the bytes, the answer, and what the buffer then holds.
-use Rattle.std.specs.Prelude.{ℕ, ◌+◌, ◌*◌, List, [], ◌∷◌, ◌++◌, length}
+use Rattle.flows.specs.declared.Refusal.{Refusal}
+use Rattle.std.specs.Prelude.{Result, ℕ, ◌+◌, ◌*◌, List, [], ◌∷◌, ◌++◌, length}
 use Rattle.flows.specs.declared.Flow.{Flow}
 use Rattle.flows.specs.Lists.{held}
 use Rattle.records.specs.Kinds.{links_kind, links_record, flow_kind, flow_record, end_kind}
 use Rattle.records.specs.Bodies.{links_written, flow_written}
 use Rattle.records.specs.Rows.{row_bytes, size_written, buffer_with}
 use Rattle.plan.specs.declared.FlowSet.{FlowSet}
-use Rattle.flows.specs.declared.Written.{Written}
 
 abbrev pub links_bytes : ℕ → ℕ → List ℕ
 links_bytes lmin lmax = links_kind ∷ links_written lmin lmax
@@ -30,7 +30,7 @@ abbrev pub plan_length : ℕ → ℕ
 plan_length n = links_record + flow_record * n + 1
 
 -- 13, if the plan does not fit. RULES, writing
-abbrev pub written_into : ℕ → ℕ → Written
+abbrev pub written_into : ℕ → ℕ → Result ℕ Refusal
 written_into space n = size_written space (plan_length n)
 
 -- the plan, and behind it what was there; where it does not fit, all that was there. RULES, writing

@@ -9,25 +9,23 @@ ghost use Rattle.table.specs.Made.{Made};
 ghost use Rattle.plans.specs.Plans.{refused_plan, set_answer, plan_answer};
 ghost use Rattle.plans.specs.Demands.{SetJudged, PlanRead, PlanWritten};
 
-use flows::{Answer, Cause, FLOWS, Outcome, Table, Written};
+use engine::NO_FIGURES;
+use flows::{Answer, FLOWS, Refusal, Table};
 use plan::FlowSet;
 
 // The empty table with both link delays 0 goes with every refusal.
-fn refuse(cause: Cause, place: usize) -> Answer
-    ensures { result ≡ refused_plan cause place }
+#[tactic(auto, unfolding(crate::specs::Plans::refused_plan, table::specs::Calls::empty_table))]
+fn refuse(refusal: Refusal) -> Answer
+    ensures { result ≡ refused_plan refusal }
 {
-    let none = engine::no_figures();
-    let row = row::none();
-    let table = Table {
-        lmin: 0,
-        lmax: 0,
-        row,
-        figures: [none; FLOWS],
-    };
     Answer {
-        cause,
-        place,
-        table,
+        outcome: Err(refusal),
+        table: Table {
+            lmin: 0,
+            lmax: 0,
+            row: row::none(),
+            figures: [NO_FIGURES; FLOWS],
+        },
     }
 }
 
@@ -36,23 +34,17 @@ pub fn judge_set(set: FlowSet) -> Answer
     ensures value { WasRead set → result ≡ set_answer set }
     ensures set_judged { WasRead set → SetJudged set result }
 {
-    let row = set.row;
-    let verdict = engine::judge(row, set.lmin, set.lmax);
-    let cause = verdict.cause;
-    if !flows::accepted(cause) {
-        return refuse(cause, 0);
-    }
-    let figures = verdict.figures;
-    let table = Table {
-        lmin: set.lmin,
-        lmax: set.lmax,
-        row,
-        figures,
-    };
-    Answer {
-        cause: Cause::Accepted,
-        place: 0,
-        table,
+    match engine::judge(set.row, set.lmin, set.lmax) {
+        Ok(figures) => Answer {
+            outcome: Ok(()),
+            table: Table {
+                lmin: set.lmin,
+                lmax: set.lmax,
+                row: set.row,
+                figures,
+            },
+        },
+        Err(cause) => refuse(cause.at(0)),
     }
 }
 
@@ -62,25 +54,22 @@ pub fn read_plan(plan: &[u8]) -> Answer
     ensures plan_read { PlanRead plan.now result }
 {
     let reading = plan::read(plan);
-    let outcome = reading.outcome;
-    let Outcome::Read = outcome else {
-        return refuse(flows::cause_in(outcome), flows::place_in(outcome));
+    let Err(refusal) = reading.outcome else {
+        return judge_set(reading.set);
     };
-    let set = reading.set;
-    judge_set(set)
+    refuse(refusal)
 }
 
 // The plan of the table, at the start of a buffer; one too short for it is refused and left as it was.
-pub fn write_plan(buffer: &mut [u8], t: Table) -> Written
+pub fn write_plan(buffer: &mut [u8], t: Table) -> Result<usize, Refusal>
     ensures value { result ≡ written_into (length buffer.old) (length (held t.row)) }
     ensures buffer_after { buffer.new ≡ buffer_after t.lmin t.lmax (held t.row) buffer.old }
     ensures plan_written { Made t → PlanWritten t buffer.old result buffer.new }
 {
-    let row = t.row;
     let set = FlowSet {
         lmin: t.lmin,
         lmax: t.lmax,
-        row,
+        row: t.row,
     };
     plan::write(buffer, set)
 }

@@ -5,6 +5,7 @@ use mathlib.Core.List.{List, [], ◌∷◌, ◌++◌}
 use native.Mathlib.Numerals.{add-one}
 use native.Mathlib.Nat.{add-zero}
 use native.Mathlib.Omega.{arith}
+use Rattle.std.specs.Prelude.{Some}
 use lib.ListN.{length, get_or, take, drop, length-append, length-drop, take-append-drop}
 use lib.Seq.{take_at, drop_at, drop-cons, drop-drop, get_or-drop, length-take-le}
 use Rattle.records.specs.Bodies.{Bytes}
@@ -51,7 +52,7 @@ module _ (b : List ℕ) (at : ℕ) {rest : List ℕ} (e : drop at b ≡ rest) wh
     behind : (n : ℕ) → drop (at + n) b ≡ drop n ((byte_of k ∷ body) ++ post)
     behind n = sym (drop-drop n at b) ∙ ap (drop n) (e ∙ s)
 
-    pub record_here : kind_at b at ≡ k
+    pub record_here : kind_at b at ≡ Some k
     record_here =
         let f = first_byte (byte_of k) (body ++ post) s in
         found b at k (record { byte = f.0; room = omega (arith, f.1, length-append body post, long) })

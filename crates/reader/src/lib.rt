@@ -4,16 +4,67 @@
 ghost use Rattle.std.specs.Prelude.{◌≡◌};
 ghost use Rattle.reader.specs.Places.{kind_named, body_of, kind_of, kind_at};
 
-// The whole record at a place; OfNone where no kind byte is left, the kind is unknown or the body short. OfLinks, OfFlow and OfEnd are a plan's, OfCount, OfLine and OfClose a report's.
-#[derive(Clone, Copy)]
+// The kind of a record. Links, Flow and End are a plan's, Count, Line and Close a report's.
+#[derive(Clone, Copy, PartialEq, Eq)]
 pub enum Kind {
-    OfLinks,
-    OfFlow,
-    OfEnd,
-    OfCount,
-    OfLine,
-    OfClose,
-    OfNone,
+    Links,
+    Flow,
+    End,
+    Count,
+    Line,
+    Close,
+}
+
+// The table of kinds: the byte of each, and the length of its body.
+impl Kind {
+    #[tactic(auto, unfolding(crate::specs::Places::kind_named))]
+    fn from_byte(byte: u8) -> Option<Kind>
+        ensures { result ≡ kind_named byte }
+    {
+        match byte {
+            records::LINKS_KIND => Some(Kind::Links),
+            records::FLOW_KIND => Some(Kind::Flow),
+            records::END_KIND => Some(Kind::End),
+            records::COUNT_KIND => Some(Kind::Count),
+            records::LINE_KIND => Some(Kind::Line),
+            records::CLOSE_KIND => Some(Kind::Close),
+            _ => None,
+        }
+    }
+
+    fn body(self) -> usize
+        ensures { result ≡ body_of self }
+    {
+        match self {
+            Kind::Links => records::LINKS_BODY,
+            Kind::Flow => records::FLOW_BODY,
+            Kind::End => 0,
+            Kind::Count => records::COUNT_BODY,
+            Kind::Line => records::LINE_BODY,
+            Kind::Close => 0,
+        }
+    }
+}
+
+// Of a kind byte with left bytes after it.
+#[tactic(auto, unfolding(crate::specs::Places::kind_of))]
+fn kind_of(byte: u8, left: usize) -> Option<Kind>
+    ensures { result ≡ kind_of byte left }
+{
+    let kind = Kind::from_byte(byte)?;
+    if left < kind.body() {
+        return None;
+    }
+    Some(kind)
+}
+
+// The whole record at a place; none where no kind byte is left, the kind is unknown or the body short.
+#[tactic(auto, unfolding(crate::specs::Places::kind_at))]
+fn kind_at(bytes: &[u8], at: usize) -> Option<Kind>
+    ensures { result ≡ kind_at bytes.now at }
+{
+    let byte = *bytes.get(at)?;
+    kind_of(byte, bytes.len() - (at + 1))
 }
 
 #[derive(Clone, Copy)]
@@ -22,80 +73,32 @@ pub struct Reader<'a> {
     pub at: usize,
 }
 
-// The table of kinds: the byte of each, and the length of its body.
-fn kind_named(byte: u8) -> Kind
-    ensures { result ≡ kind_named byte }
-{
-    match byte {
-        records::LINKS_KIND => Kind::OfLinks,
-        records::FLOW_KIND => Kind::OfFlow,
-        records::END_KIND => Kind::OfEnd,
-        records::COUNT_KIND => Kind::OfCount,
-        records::LINE_KIND => Kind::OfLine,
-        records::CLOSE_KIND => Kind::OfClose,
-        _ => Kind::OfNone,
+impl<'a> Reader<'a> {
+    // At the first byte.
+    pub fn new(src: &'a [u8]) -> Reader<'a>
+        ensures { (result.src ≡ src.entry) × (result.at ≡ 0) }
+    {
+        Reader { src, at: 0 }
     }
-}
 
-fn body_of(kind: Kind) -> usize
-    ensures { result ≡ body_of kind }
-{
-    match kind {
-        Kind::OfLinks => records::LINKS_BODY,
-        Kind::OfFlow => records::FLOW_BODY,
-        Kind::OfEnd => 0,
-        Kind::OfCount => records::COUNT_BODY,
-        Kind::OfLine => records::LINE_BODY,
-        Kind::OfClose => 0,
-        Kind::OfNone => 0,
+    // The same bytes, at another place.
+    pub fn moved(self, at: usize) -> Reader<'a>
+        ensures { (result.src ≡ self.entry.src) × (result.at ≡ at) }
+    {
+        Reader { src: self.src, at }
     }
-}
 
-// Of a kind byte with left bytes after it.
-fn kind_of(byte: u8, left: usize) -> Kind
-    ensures { result ≡ kind_of byte left }
-{
-    let kind = kind_named(byte);
-    if left < body_of(kind) {
-        return Kind::OfNone;
+    // The record at its place.
+    pub fn next(self) -> Option<Kind>
+        ensures { result ≡ kind_at self.entry.src.now self.entry.at }
+    {
+        kind_at(self.src, self.at)
     }
-    kind
-}
-
-fn kind_at(bytes: &[u8], at: usize) -> Kind
-    ensures { result ≡ kind_at bytes.now at }
-{
-    let n = bytes.len();
-    if n <= at {
-        return Kind::OfNone;
-    }
-    kind_of(bytes[at], n - (at + 1))
-}
-
-// At the first byte.
-pub fn new<'a>(src: &'a [u8]) -> Reader<'a>
-    ensures { (result.src ≡ src.entry) × (result.at ≡ 0) }
-{
-    Reader { src, at: 0 }
-}
-
-// The same bytes, at another place.
-pub fn moved<'a>(r: Reader<'a>, at: usize) -> Reader<'a>
-    ensures { (result.src ≡ r.entry.src) × (result.at ≡ at) }
-{
-    Reader { src: r.src, at }
-}
-
-// The record at its place.
-pub fn next<'a>(r: Reader<'a>) -> Kind
-    ensures { result ≡ kind_at r.entry.src.now r.entry.at }
-{
-    kind_at(r.src, r.at)
 }
 
 // The record that a reader sees at a place. Its parameters are plain, so that whoever calls it needs no walk by hand.
-pub fn seen<'a>(bytes: &'a [u8], at: usize) -> Kind
+pub fn seen<'a>(bytes: &'a [u8], at: usize) -> Option<Kind>
     ensures { result ≡ kind_at bytes.now at }
 {
-    next(moved(new(bytes), at))
+    Reader::new(bytes).moved(at).next()
 }

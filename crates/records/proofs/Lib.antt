@@ -1,5 +1,4 @@
 -- The laws of `records`.
-pub mod Reading
 pub mod Writing
 pub mod RoundTrip
 pub mod Rows

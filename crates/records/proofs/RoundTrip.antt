@@ -33,7 +33,7 @@ bytes_from_lem at (suc n) l h =
     let g : at < length l = omega arith in
     rw (drop-cons l at 0 g) (ap (λ (r : List ℕ). get_or l at 0 ∷ r) (bytes_from_lem (suc at) n l (omega arith)))
 
-all_bytes : (n : ℕ) (l : List ℕ) → length l ≡ n → bytes_from 0 n l ≡ l
+pub all_bytes : (n : ℕ) (l : List ℕ) → length l ≡ n → bytes_from 0 n l ≡ l
 all_bytes n l h = bytes_from_lem 0 n l (omega arith) ∙ take_all n l (omega arith)
 
 pub links_back : (b : List ℕ) → length b ≡ links_body → Bytes b → links_written (links_read b).lmin (links_read b).lmax ≡ b

@@ -1,28 +1,17 @@
--- Writing: what each record leaves in the buffer, records in a row, and the whole with its answer.
-use Prim.Native.Nat.{ℕ, suc, ◌+◌, ◌-◌, ◌*◌, ◌≤◌, ◌<◌}
+-- Writing: records in a row, and the whole with its answer.
+use Prim.Native.Nat.{ℕ, ◌+◌, ◌*◌, ◌≤◌, ◌<◌}
 use mathlib.Core.Path.{◌≡◌, sym, ap, ◌∙◌}
 use mathlib.Core.List.{List, [], ◌∷◌, ◌++◌, append-nil, append_assoc}
 use native.Mathlib.Numerals.{add-one}
 use native.Mathlib.Omega.{arith}
 use lib.ListN.{length, get_or, take, drop, set, length-append, length-take, length-drop, take-append-drop}
-use lib.Seq.{take_at, drop_at, take-suc, take-suc-set, drop-set-lt, drop-drop, drop-cons, set_at, append_snoc, length-take-le}
+use lib.Seq.{take_at, drop_at, take-suc, drop-drop, drop-cons, set_at, length-take-le}
 use borrow.Author.Tests.{lt-ltb, le-ltb}
 use Rattle.flows.specs.declared.Refusal.{Refusal}
 use Rattle.flows.specs.declared.Cause.TheVariants.{ShortBuffer}
-use Rattle.flows.specs.declared.Written.TheVariants.{Length, Refused}
-use Rattle.flows.specs.Refusals.{refusal_of}
+use Rattle.std.specs.Prelude.{Ok, Err}
 use Rattle.flows.specs.WellFormed.{Each, each_more}
 use Rattle.records.specs.Rows.{row_bytes, size_written, buffer_with}
-
--- ---- a record: its kind by a store, its body by the part that was lent
-pub record-put : (old body : List ℕ) (at kind n : ℕ) → at + (1 + n) ≤ length old →
-    take (at + 1) (set old at kind) ++ (body ++ drop (at + (1 + n) - (at + 1)) (drop (at + 1) (set old at kind))) ≡
-    take at old ++ ((kind ∷ body) ++ drop (at + (1 + n)) old)
-record-put old body at kind n h =
-    let g : at < length old = omega arith in
-    let z : at + (1 + n) - (at + 1) ≡ n = omega arith in
-    let y : suc at + n ≡ at + (1 + n) = omega arith in
-    rw (z, add-one, take-suc-set old at kind g, drop-set-lt (suc at) old at kind (omega arith), drop-drop, y, append_snoc)
 
 -- ---- records in a row, each of size bytes, after the first head bytes of the buffer
 module _ {A : Type 0} (bytes : A → List ℕ) where
@@ -92,11 +81,11 @@ module _ {A : Type 0} (bytes : A → List ℕ) where
 
 -- ---- the answer, and the buffer
 module _ (space size : ℕ) where
-  pub wrote_short : (r : Refusal) → space < size → r ≡ refusal_of ShortBuffer 0 → Refused r ≡ size_written space size
+  pub wrote_short : (r : Refusal) → space < size → r ≡ record { cause = ShortBuffer; place = 0 } → Err r ≡ size_written space size
   unfolding size_written
   wrote_short r h g = rw (lt-ltb _ _ h, g)
 
-  pub wrote_all : size ≤ space → Length size ≡ size_written space size
+  pub wrote_all : size ≤ space → Ok size ≡ size_written space size
   unfolding size_written
   wrote_all h = rw (le-ltb _ _ h)
 

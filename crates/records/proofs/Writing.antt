@@ -1,44 +1,32 @@
--- What the bodies' writers leave: stores over a whole part, two loops, three parts of a body.
-use Prim.Native.Nat.{ℕ, suc, ◌+◌, ◌*◌, ◌/◌, ◌%◌, ◌≤◌, ◌<◌}
-use mathlib.Core.Path.{◌≡◌, refl, sym, ◌∙◌}
+-- What the bodies' writers leave: stores over a whole part, a loop, three parts of a body.
+use Prim.Native.Nat.{ℕ, ◌+◌, ◌-◌, ◌*◌, ◌/◌, ◌%◌, ◌<◌}
+use mathlib.Core.Path.{◌≡◌, refl, sym}
 use mathlib.Core.List.{List, [], ◌∷◌, ◌++◌, append-nil, append_assoc}
 use native.Mathlib.Numerals.{add-one}
 use native.Mathlib.Omega.{arith}
+use borrow.Rule.Slice.PartMut.{put_mid}
+use Rattle.std.proofs.lemmas.Slice.{take-put_mid}
 use lib.ListN.{length, get_or, take, drop, set, drop_of_length-le, length-append, length-drop}
-use lib.Seq.{sets, sets-eq, set_at, take-suc, take_all, take_at, drop_at, drop-cons, drop-length, append_snoc, length-take-le}
+use lib.Seq.{take-suc, take_at, drop_at}
 use Rattle.flows.specs.declared.Flow.{Flow}
 use Rattle.records.specs.declared.Line.{Line}
-use Rattle.records.specs.Kinds.{flow_body, flow_nodes, links_body, line_body}
-use Rattle.records.specs.Bodies.{words_written, links_written, head_written, flow_written, line_written}
+use Rattle.records.specs.Kinds.{flow_body, flow_nodes, line_body}
+use Rattle.records.proofs.RoundTrip.{all_bytes}
+use Rattle.records.specs.Bodies.{words_written, head_written, flow_written, line_written}
 
--- stores one after the other over a whole list
-pub sets-all : (vs l : List ℕ) → length vs ≡ length l → sets l 0 vs ≡ vs
-sets-all vs l e =
-    let h : 0 + length vs ≤ length l = omega arith in
-    let k : length l ≤ 0 + length vs = omega arith in
-    sets-eq vs l 0 h ∙ rw (drop_of_length-le l k) (append-nil vs)
+-- the bytes of a two-byte number
+abbrev pub bytes : ℕ → List ℕ
+bytes x = x / 256 % 256 ∷ x % 256 ∷ []
 
-pub links-stored : (old : List ℕ) (lmin lmax a b c d : ℕ) → length old ≡ links_body →
-    a ≡ lmin / 256 % 256 → b ≡ lmin % 256 → c ≡ lmax / 256 % 256 → d ≡ lmax % 256 →
-    set (set (set (set old 0 a) 1 b) 2 c) 3 d ≡ links_written lmin lmax
-links-stored old lmin lmax a b c d h e₀ e₁ e₂ e₃ = rw (e₀, e₁, e₂, e₃) (sets-all (links_written lmin lmax) old (sym h))
+-- ---- over a whole part whose places are written out
+pub head_stored : (old p j d : List ℕ) (f : Flow) → length old ≡ 9 → p ≡ bytes f.period → j ≡ bytes f.jitter → d ≡ bytes f.deadline →
+    set (put_mid 6 2 (put_mid 4 2 (put_mid 2 2 (set (set old 0 f.number) 1 f.priority) p) j) d) 8 f.length ≡ head_written f
+head_stored old p j d f h e₀ e₁ e₂ = rw (e₀, e₁, e₂, ← all_bytes 9 old h)
 
-pub line-stored : (old : List ℕ) (l : Line) (a b c d e f : ℕ) → length old ≡ line_body →
-    a ≡ l.figures.bound / 256 % 256 → b ≡ l.figures.bound % 256 → c ≡ l.figures.jitter / 256 % 256 → d ≡ l.figures.jitter % 256 →
-    e ≡ l.figures.busy / 256 % 256 → f ≡ l.figures.busy % 256 →
-    set (set (set (set (set (set (set old 0 l.number) 1 a) 2 b) 3 c) 4 d) 5 e) 6 f ≡ line_written l
+pub line_stored : (old b j y : List ℕ) (l : Line) → length old ≡ line_body → b ≡ bytes l.figures.bound → j ≡ bytes l.figures.jitter → y ≡ bytes l.figures.busy →
+    put_mid 5 2 (put_mid 3 2 (put_mid 1 2 (set old 0 l.number) b) j) y ≡ line_written l
 unfolding line_written words_written
-line-stored old l a b c d e f h e₀ e₁ e₂ e₃ e₄ e₅ = rw (e₀, e₁, e₂, e₃, e₄, e₅) (sets-all (line_written l) old (sym h))
-
--- ---- the nodes
-module _ (nodes old out : List ℕ) (k : ℕ) (ln : length nodes ≡ flow_nodes) (lo : length old ≡ flow_nodes) (inv : out ≡ take k nodes ++ drop k old) where
-  pub nodes_more : k < flow_nodes → set out k (get_or nodes k 0) ≡ take (k + 1) nodes ++ drop (k + 1) old
-  nodes_more h =
-      let lp : length (take k nodes) ≡ k = length-take-le k nodes (omega arith) in
-      rw (inv, drop-cons old k 0 (omega arith), set_at (take k nodes) _ _ (get_or nodes k 0) k lp, add-one, take-suc nodes k 0 (omega arith), append_snoc)
-
-  pub nodes_end : flow_nodes ≤ k → out ≡ nodes
-  nodes_end h = inv ∙ rw (take_all k nodes (omega arith), drop_of_length-le old {i = k} (omega arith)) (append-nil nodes)
+line_stored old b j y l h e₀ e₁ e₂ = rw (e₀, e₁, e₂, ← all_bytes line_body old h)
 
 -- ---- the costs, two bytes each
 length_words : (l : List ℕ) → length (words_written l) ≡ 2 * length l
@@ -46,36 +34,16 @@ unfolding words_written
 length_words [] = refl
 length_words (x ∷ l) = let h = length_words l in omega arith
 
-words_snoc : (l : List ℕ) (x : ℕ) → words_written (l ++ (x ∷ [])) ≡ words_written l ++ (x / 256 % 256 ∷ x % 256 ∷ [])
+words_snoc : (l : List ℕ) (x : ℕ) → words_written (l ++ (x ∷ [])) ≡ words_written l ++ bytes x
 unfolding words_written
 words_snoc [] x = refl
 words_snoc (y ∷ l) x = rw (words_snoc l x)
 
-module _ (costs old out : List ℕ) (k : ℕ) (lc : length costs ≡ flow_nodes) (lo : length old ≡ 2 * flow_nodes)
-    (inv : out ≡ words_written (take k costs) ++ drop (2 * k) old) where
-  pub costs_more : (h l : ℕ) → k < flow_nodes → h ≡ get_or costs k 0 / 256 % 256 → l ≡ get_or costs k 0 % 256 →
-      set (set out (2 * k) h) (2 * k + 1) l ≡ words_written (take (k + 1) costs) ++ drop (2 * (k + 1)) old
-  costs_more h l g eh el =
-      let p = words_written (take k costs) in
-      let lp : length p ≡ 2 * k = omega (arith, length_words (take k costs), length-take-le k costs (omega arith)) in
-      let lq : length (p ++ (h ∷ [])) ≡ 2 * k + 1 = omega (arith, length-append p (h ∷ [])) in
-      let a : drop (2 * k) old ≡ get_or old (2 * k) 0 ∷ drop (suc (2 * k)) old = drop-cons old (2 * k) 0 (omega arith) in
-      let b : drop (suc (2 * k)) old ≡ get_or old (suc (2 * k)) 0 ∷ drop (suc (suc (2 * k))) old = drop-cons old (suc (2 * k)) 0 (omega arith) in
-      let z : 2 * (k + 1) ≡ suc (suc (2 * k)) = omega arith in
-      let t : take (k + 1) costs ≡ take k costs ++ (get_or costs k 0 ∷ []) = rw add-one (take-suc costs k 0 (omega arith)) in
-      let s₁ : set out (2 * k) h ≡ p ++ (h ∷ drop (suc (2 * k)) old) = rw (inv, a) (set_at p _ _ h (2 * k) lp) in
-      let s₂ : set (p ++ (h ∷ drop (suc (2 * k)) old)) (2 * k + 1) l ≡ (p ++ (h ∷ [])) ++ (l ∷ drop (suc (suc (2 * k))) old) =
-      rw (← append_snoc p h (drop (suc (2 * k)) old), b) (set_at (p ++ (h ∷ [])) _ _ l (2 * k + 1) lq) in
-      rw (s₁, s₂, z, t, words_snoc, ← eh, ← el) (simp append_assoc)
-
-  pub costs_end : k ≤ flow_nodes → flow_nodes ≤ k → out ≡ words_written costs
-  costs_end g h =
-      let y : 2 * k ≡ length old = omega arith in
-      inv ∙ rw (y, drop-length old, append-nil) (rw (take_all k costs (omega arith)))
-
-pub costs-none : (costs old : List ℕ) → old ≡ words_written (take 0 costs) ++ drop 0 old
-unfolding words_written
-costs-none costs old = refl
+pub costs_more : (costs out two : List ℕ) (k : ℕ) → length costs ≡ flow_nodes → length out ≡ 2 * flow_nodes → k < flow_nodes → two ≡ bytes (get_or costs k 0) →
+    take (2 * k) out ≡ words_written (take k costs) → take (2 * (k + 1)) (put_mid (2 * k) (2 * k + 2 - 2 * k) out two) ≡ words_written (take (k + 1) costs)
+costs_more costs out two k lc lo h e inv =
+    let l : length two ≡ 2 = rw e in
+    rw (take-put_mid (2 * k) (2 * k + 2 - 2 * k) out two (2 * (k + 1)) (omega arith) (omega arith), inv, e, add-one, take-suc costs k 0 (omega arith)) (sym (words_snoc (take k costs) (get_or costs k 0)))
 
 -- ---- a body of three parts
 pub length-flow : (f : Flow) → length f.nodes ≡ flow_nodes → length f.costs ≡ flow_nodes → length (flow_written f) ≡ flow_body
@@ -88,8 +56,7 @@ put_after p q ys a k e = rw (take_at p q a e, drop_at p q a e)
 
 pub flow-stored : (o h n c : List ℕ) (f : Flow) → length o ≡ flow_body → length f.nodes ≡ flow_nodes → length f.costs ≡ flow_nodes →
     h ≡ head_written f → n ≡ f.nodes → c ≡ words_written f.costs →
-    take 17 (take 9 (h ++ drop 9 o) ++ (n ++ drop 8 (drop 9 (h ++ drop 9 o)))) ++
-    (c ++ drop 16 (drop 17 (take 9 (h ++ drop 9 o) ++ (n ++ drop 8 (drop 9 (h ++ drop 9 o)))))) ≡ flow_written f
+    put_mid 17 16 (put_mid 9 8 (h ++ drop 9 o) n) c ≡ flow_written f
 unfolding flow_written
 flow-stored o h n c f lo ln lc eh en ec =
     let lh : length h ≡ 9 = rw eh in

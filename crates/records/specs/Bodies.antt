@@ -1,5 +1,6 @@
 -- The layout of each body: what its bytes say, and the bytes that say it. RULES, the plan, the report.
-use Rattle.std.specs.Prelude.{ℕ, zero, suc, ◌+◌, ◌*◌, ◌/◌, ◌%◌, ◌<◌, List, [], ◌∷◌, ◌++◌, get_or}
+use Rattle.std.specs.Prelude.{ℕ, zero, suc, ◌+◌, ◌*◌, ◌/◌, ◌%◌, ◌<◌, List, [], ◌∷◌, ◌++◌, get_or, codes}
+use Rattle.std.specs.Fmt.{decimal}
 use Rattle.flows.specs.declared.Flow.{Flow}
 use Rattle.records.specs.declared.Links.{Links}
 use Rattle.records.specs.declared.Line.{Line}
@@ -66,3 +67,8 @@ pub record TypedLine (l : Line) : Type 0 where
   pub bound : l.figures.bound < 65536
   pub jitter : l.figures.jitter < 65536
   pub busy : l.figures.busy < 65536
+
+-- a line as it is printed: a flow's number and its figures. RULES, programs
+abbrev pub line_words : Line → List ℕ
+line_words l =
+    decimal l.number ++ codes " " ++ decimal l.figures.bound ++ codes " " ++ decimal l.figures.jitter ++ codes " " ++ decimal l.figures.busy

@@ -1,11 +1,12 @@
 // The kinds of a plan's and of a report's records, and their bodies read and written; of a two-byte number the high byte comes first. RULES, the plan, the report.
 #![tactic(auto)]
 
-ghost use Rattle.std.specs.Prelude.{◌≡◌, ◌+◌, ◌*◌, ◌/◌, ◌%◌, ◌<◌, length};
+ghost use Rattle.std.specs.Prelude.{◌≡◌, ◌+◌, ◌*◌, ◌/◌, ◌<◌, length, Some};
 ghost use Rattle.records.specs.Kinds.{links_body, flow_body, flow_nodes, line_body};
-ghost use Rattle.records.specs.Bodies.{word_at, bytes_from, words_from, links_read, flow_read, links_written, head_written, words_written, flow_written, line_read, line_written};
+ghost use Rattle.records.specs.Bodies.{word_at, words_from, links_read, flow_read, links_written, head_written, words_written, flow_written, line_read, line_written, line_words};
 
 use flows::{Figures, Flow};
+use std::fmt;
 
 pub const LINKS_KIND: u8 = 0x01;
 
@@ -52,29 +53,20 @@ pub struct Line {
     pub figures: Figures,
 }
 
-fn join(high: u8, low: u8) -> u16
-    ensures { result ≡ high * 256 + low }
-{
-    (high as u16) * 256 + (low as u16)
-}
+impl fmt::Display for Line {
+    ghost output = { λ l. Some (line_words l) };
 
-fn high(x: u16) -> u8
-    ensures { result ≡ x / 256 % 256 }
-{
-    (x / 256 % 256) as u8
-}
-
-fn low(x: u16) -> u8
-    ensures { result ≡ x % 256 }
-{
-    (x % 256) as u8
+    fn fmt<W: fmt::Write>(&self, f: &mut fmt::Formatter<W>) -> fmt::Result {
+        let (number, g) = (self.number, self.figures);
+        write!(f, "{number} {} {} {}", g.bound, g.jitter, g.busy)
+    }
 }
 
 fn word_at(body: &[u8], at: usize) -> u16
     requires { at + 1 < length body.now }
     ensures { result ≡ word_at body.now at }
 {
-    join(body[at], body[at + 1])
+    u16::from_be_bytes([body[at], body[at + 1]])
 }
 
 pub fn read_links(body: &[u8]) -> Links
@@ -85,15 +77,6 @@ pub fn read_links(body: &[u8]) -> Links
         lmin: word_at(body, 0),
         lmax: word_at(body, 2),
     }
-}
-
-fn read_nodes(body: &[u8]) -> [u8; FLOW_NODES]
-    requires { length body.now ≡ flow_body }
-    ensures { result ≡ bytes_from 9 flow_nodes body.now }
-{
-    [
-        body[9], body[10], body[11], body[12], body[13], body[14], body[15], body[16],
-    ]
 }
 
 fn read_costs(body: &[u8]) -> [u16; FLOW_NODES]
@@ -116,7 +99,8 @@ pub fn read_flow(body: &[u8]) -> Flow
     requires { length body.now ≡ flow_body }
     ensures { result ≡ flow_read body.now }
 {
-    let nodes = read_nodes(body);
+    let mut nodes = [0; FLOW_NODES];
+    nodes.copy_from_slice(&body[9..17]);
     let costs = read_costs(body);
     Flow {
         number: body[0],
@@ -134,48 +118,30 @@ pub fn write_links(body: &mut [u8], lmin: u16, lmax: u16)
     requires { length body.old ≡ links_body }
     ensures { body.new ≡ links_written lmin lmax }
 {
-    body[0] = high(lmin);
-    body[1] = low(lmin);
-    body[2] = high(lmax);
-    body[3] = low(lmax);
+    body[0..2].copy_from_slice(&lmin.to_be_bytes());
+    body[2..4].copy_from_slice(&lmax.to_be_bytes());
 }
 
+#[tactic(auto, using(crate::proofs::Writing::head_stored))]
 fn write_head(head: &mut [u8], f: Flow)
     requires { length head.old ≡ 9 }
     ensures { head.new ≡ head_written f }
 {
     head[0] = f.number;
     head[1] = f.priority;
-    head[2] = (f.period / 256 % 256) as u8;
-    head[3] = (f.period % 256) as u8;
-    head[4] = (f.jitter / 256 % 256) as u8;
-    head[5] = (f.jitter % 256) as u8;
-    head[6] = (f.deadline / 256 % 256) as u8;
-    head[7] = (f.deadline % 256) as u8;
+    head[2..4].copy_from_slice(&f.period.to_be_bytes());
+    head[4..6].copy_from_slice(&f.jitter.to_be_bytes());
+    head[6..8].copy_from_slice(&f.deadline.to_be_bytes());
     head[8] = f.length;
 }
 
-fn write_nodes(out: &mut [u8], f: Flow)
-    requires { length out.old ≡ flow_nodes }
-    ensures { out.new ≡ f.nodes }
-{
-    let mut k = 0;
-    while k < FLOW_NODES {
-        out[k] = f.nodes[k];
-        k += 1;
-    }
-}
-
+#[tactic(auto, using(crate::proofs::Writing::costs_more))]
 fn write_costs(out: &mut [u8], f: Flow)
     requires { length out.old ≡ 2 * flow_nodes }
     ensures { out.new ≡ words_written f.costs }
 {
-    let mut k = 0;
-    while k < FLOW_NODES {
-        let cost = f.costs[k];
-        out[2 * k] = high(cost);
-        out[2 * k + 1] = low(cost);
-        k += 1;
+    for (k, cost) in f.costs.iter().enumerate() {
+        out[2 * k..2 * k + 2].copy_from_slice(&cost.to_be_bytes());
     }
 }
 
@@ -185,7 +151,7 @@ pub fn write_flow(body: &mut [u8], f: Flow)
     ensures body_after { body.new ≡ flow_written f }
 {
     write_head(&mut body[0..9], f);
-    write_nodes(&mut body[9..17], f);
+    body[9..17].copy_from_slice(&f.nodes);
     write_costs(&mut body[17..33], f);
 }
 
@@ -204,16 +170,14 @@ pub fn read_line(body: &[u8]) -> Line
     }
 }
 
+#[tactic(auto, using(crate::proofs::Writing::line_stored))]
 pub fn write_line(body: &mut [u8], line: Line)
     requires { length body.old ≡ line_body }
     ensures { body.new ≡ line_written line }
 {
     let figures = line.figures;
     body[0] = line.number;
-    body[1] = high(figures.bound);
-    body[2] = low(figures.bound);
-    body[3] = high(figures.jitter);
-    body[4] = low(figures.jitter);
-    body[5] = high(figures.busy);
-    body[6] = low(figures.busy);
+    body[1..3].copy_from_slice(&figures.bound.to_be_bytes());
+    body[3..5].copy_from_slice(&figures.jitter.to_be_bytes());
+    body[5..7].copy_from_slice(&figures.busy.to_be_bytes());
 }

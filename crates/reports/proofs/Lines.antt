@@ -12,13 +12,10 @@ use borrow.Author.Tests.{lt-ltb, le-ltb, ltb-true, ltb-false}
 use Rattle.flows.specs.declared.Flow.{Flow}
 use Rattle.flows.specs.declared.Figures.{Figures}
 use Rattle.flows.specs.declared.Row.{Row}
-use Rattle.flows.specs.declared.Asked.{Asked}
-use Rattle.flows.specs.declared.Asked.TheVariants.{Given, Refused}
+use Rattle.std.specs.Prelude.{Option, Some, None, Ok, Err}
 use Rattle.flows.specs.declared.Cause.TheVariants.{Absent}
-use Rattle.flows.specs.Refusals.{refusal_of}
 use Rattle.flows.specs.Lists.{most_flows, held}
-use Rattle.row.specs.declared.Found.{Found}
-use Rattle.row.specs.declared.Found.TheVariants.{At, Nothing}
+use Rattle.table.specs.Calls.{Asked}
 use Rattle.row.specs.Rows.{first_of, place_of, found_in}
 use Rattle.row.proofs.Arrays.{held_at}
 use Rattle.records.specs.declared.Line.{Line}
@@ -67,15 +64,15 @@ module _ (row : Row) (gs : List Figures) (len : length row.flows ≡ most_flows)
 
 -- ---- asking
 -- what a table with these figures gives for a place
-abbrev pub shown_at : List Figures → Found → Asked
-shown_at gs Nothing = Refused (refusal_of Absent 0)
-shown_at gs (At place) = Given (get_or gs place no_figures)
+abbrev pub shown_at : List Figures → Option ℕ → Asked
+shown_at gs None = Err (record { cause = Absent; place = 0 })
+shown_at gs (Some place) = Ok (get_or gs place no_figures)
 
 shifted : (g : Figures) (gs : List Figures) (p n : ℕ) →
-    shown_at gs (cond (ltb p n) (At p) Nothing) ≡ shown_at (g ∷ gs) (cond (ltb (suc p) (suc n)) (At (suc p)) Nothing)
+    shown_at gs (cond (ltb p n) (Some p) None) ≡ shown_at (g ∷ gs) (cond (ltb (suc p) (suc n)) (Some (suc p)) None)
 shifted g gs p n = go (ltb p n) refl
   where
-    go : (q : Bool) → ltb p n ≡ q → shown_at gs (cond (ltb p n) (At p) Nothing) ≡ shown_at (g ∷ gs) (cond (ltb (suc p) (suc n)) (At (suc p)) Nothing)
+    go : (q : Bool) → ltb p n ≡ q → shown_at gs (cond (ltb p n) (Some p) None) ≡ shown_at (g ∷ gs) (cond (ltb (suc p) (suc n)) (Some (suc p)) None)
     go true e = let h = ltb-true p n e in rw (e, lt-ltb (suc p) (suc n) (omega arith))
     go false e = let h = ltb-false p n e in rw (e, le-ltb (suc p) (suc n) (omega arith))
 
@@ -86,7 +83,7 @@ asks_alike (f ∷ fs) [] number h = absurd (omega arith)
 asks_alike (f ∷ fs) (g ∷ gs) number h = go (eqb f.number number) (asks_alike fs gs number (omega arith))
   where
     go : (p : Bool) → asked_in (lines_from fs gs) number ≡ shown_at gs (found_in fs number) →
-        cond p (Given g) (asked_in (lines_from fs gs) number) ≡
-        shown_at (g ∷ gs) (cond (ltb (cond p 0 (suc (place_of number fs))) (length (f ∷ fs))) (At (cond p 0 (suc (place_of number fs)))) Nothing)
+        cond p (Ok g) (asked_in (lines_from fs gs) number) ≡
+        shown_at (g ∷ gs) (cond (ltb (cond p 0 (suc (place_of number fs))) (length (f ∷ fs))) (Some (cond p 0 (suc (place_of number fs)))) None)
     go true ih = rw (lt-ltb 0 (length (f ∷ fs)) (omega arith))
     go false ih = ih ∙ shifted g gs (place_of number fs) (length fs)

@@ -10,16 +10,14 @@ use Rattle.rules.proofs.Exact.{jitter_below}
 use Rattle.flows.specs.declared.Flow.{Flow}
 use Rattle.flows.specs.declared.Figures.{Figures}
 use Rattle.flows.specs.declared.Table.{Table}
-use Rattle.flows.specs.declared.Asked.TheVariants.{Given}
+use Rattle.std.specs.Prelude.{Option, Some, None, Ok}
 use Rattle.flows.specs.Lists.{most_flows, held, flow_of, table_net}
 use Rattle.flows.specs.WellFormed.{Each, each_none, each_more, Typed}
 use Rattle.flows.proofs.Passed.{each_member}
-use Rattle.row.specs.declared.Found.{Found}
-use Rattle.row.specs.declared.Found.TheVariants.{At, Nothing}
 use Rattle.row.specs.Rows.{found_in, RisingBy, Rising, rising_none, rising-more}
 use Rattle.records.specs.declared.Line.{Line}
 use Rattle.records.specs.Bodies.{TypedLine}
-use Rattle.engine.specs.Verdicts.{no_figures, as_figures, given}
+use Rattle.engine.specs.Verdicts.{no_figures, as_figures, listed}
 use Rattle.lines.specs.Reports.{asked_in}
 use Rattle.lines.specs.Demands.{Possible, Listable, InOrder}
 use Rattle.lines.proofs.Orders.{listed-order}
@@ -62,13 +60,13 @@ module _ (t : Table) where
   unfolding asked_for asked_by
   shown_for number = go (found_in (held t.row) number)
     where
-      go : (x : Found) → shown_at t.figures x ≡ asked_by t x
-      go Nothing = refl
-      go (At place) = refl
+      go : (x : Option ℕ) → shown_at t.figures x ≡ asked_by t x
+      go None = refl
+      go (Some place) = refl
 
 module _ (t : Table) (m : Made t) where
   pub long : length (held t.row) ≤ length t.figures
-  unfolding given
+  unfolding listed
   long =
       let r = made-right t m in
       let gs = r.givens in
@@ -86,7 +84,7 @@ module _ (t : Table) (m : Made t) where
     of : Of (held t.row) l
     of = line-flow (held t.row) t.figures l h
 
-    shown : asked_for t of.flow.number ≡ Given l.figures
+    shown : asked_for t of.flow.number ≡ Ok l.figures
     shown = ap (asked_for t) of.number ∙ sym (asks l.number) ∙ asked_present (table_lines t) rising l h
 
     passes : Possible l.figures × TypedLine l

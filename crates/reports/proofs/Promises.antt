@@ -4,7 +4,8 @@ use mathlib.Core.Path.{◌≡◌, refl, sym, ap, ◌∙◌, subst}
 use mathlib.Core.List.{List}
 use lib.ListN.{length}
 use Rattle.flows.specs.declared.Table.{Table}
-use Rattle.flows.specs.declared.Written.{Written}
+use Rattle.std.specs.Prelude.{Result}
+use Rattle.flows.specs.declared.Refusal.{Refusal}
 use Rattle.flows.specs.Lists.{held}
 use Rattle.records.specs.declared.Line.{Line}
 use Rattle.lines.specs.declared.Report.{Report}
@@ -22,7 +23,7 @@ use Rattle.reports.proofs.Lines.{lines-count}
 pub of_promise : (t : Table) (r : Report) → r ≡ table_report t → Made t → InOrder r
 of_promise t r e m = subst InOrder (sym e) (made_order t m)
 
-module _ (t : Table) (old : List ℕ) (r : Written) (new : List ℕ) (report : Report) (e : report ≡ table_report t) where
+module _ (t : Table) (old : List ℕ) (r : Result ℕ Refusal) (new : List ℕ) (report : Report) (e : report ≡ table_report t) where
   same : lines_in report ≡ table_lines t
   same = ap lines_in e ∙ lines_of (table_lines t)
 

@@ -8,7 +8,7 @@ ghost use Rattle.table.specs.Made.{Made};
 ghost use Rattle.reports.specs.Reports.{table_lines, table_report};
 ghost use Rattle.reports.specs.Demands.{TableReported};
 
-use flows::{Table, Written};
+use flows::{Refusal, Table};
 use lines::Report;
 use records::Line;
 
@@ -17,29 +17,22 @@ pub fn report_of(t: Table) -> Report
     ensures value { result ≡ table_report t }
     ensures in_order { Made t → InOrder result }
 {
-    let row = t.row;
-    let n = row::size(row);
     let mut report = lines::none();
-    let mut k = 0;
-    while k < n {
-        let f = row.flows[k];
-        let figures = t.figures[k];
+    for k in 0..row::size(t.row) {
         let line = Line {
-            number: f.number,
-            figures,
+            number: t.row.flows[k].number,
+            figures: t.figures[k],
         };
         report = lines::append(report, line);
-        k += 1;
     }
     report
 }
 
 // The report of the table, at the start of a buffer; one too short for it is refused and left as it was.
-pub fn write_report(buffer: &mut [u8], t: Table) -> Written
+pub fn write_report(buffer: &mut [u8], t: Table) -> Result<usize, Refusal>
     ensures value { result ≡ report_written (length buffer.old) (length (table_lines t)) }
     ensures buffer_after { buffer.new ≡ report_after (table_lines t) buffer.old }
     ensures table_reported { Made t → TableReported t buffer.old result buffer.new }
 {
-    let report = report_of(t);
-    lines::write(buffer, report)
+    lines::write(buffer, report_of(t))
 }

@@ -1,5 +1,5 @@
 -- What rises, which flows are marked for it, and which has its turn next.
-use Rattle.std.specs.Prelude.{◌≡◌, true, false, List, ℕ, ◌+◌, ◌≤◌, ◌<◌, max}
+use Rattle.std.specs.Prelude.{◌≡◌, Bool, true, false, Option, Some, None, List, ℕ, ◌+◌, ◌≤◌, ◌<◌, max}
 use Rattle.least.specs.Lists.{values, Inside}
 use Rattle.starts.specs.Runs.{Low}
 use Rattle.rounds.specs.Reading.{reads_flow}
@@ -9,11 +9,11 @@ abbrev pub fresh_mark : ℕ
 fresh_mark = 4
 
 -- those at m places raised to best, the others as they were; rose tells whether one rose
-pub record RaisedIs (replies best : List ℕ) (at m : ℕ) (replies' : List ℕ) (rose : ℕ) : Type 0 where
+pub record RaisedIs (replies best : List ℕ) (at m : ℕ) (replies' : List ℕ) (rose : Bool) : Type 0 where
   pub inside : (k : ℕ) → k < m → values replies' (at + k) ≡ max (values replies (at + k)) (values best k)
   pub others : Inside at (at + m) replies replies'
-  pub still : rose ≡ 0 → (k : ℕ) → k < m → values best k ≤ values replies (at + k)
-  pub risen : (rose ≡ 0 → ⊥) → (k : ℕ) × (k < m) × (values replies (at + k) < values best k)
+  pub still : rose ≡ false → (k : ℕ) → k < m → values best k ≤ values replies (at + k)
+  pub risen : rose ≡ true → (k : ℕ) × (k < m) × (values replies (at + k) < values best k)
   pub low : Low replies'
 
 -- of the flows below n: all turns anew if it reads flow a, otherwise as it was; the others as they were
@@ -22,8 +22,7 @@ pub record MarkedIs (marks net : List ℕ) (a n : ℕ) (marks' : List ℕ) : Typ
   pub read : (b : ℕ) → b < n → reads_flow net b a ≡ true → values marks' b ≡ fresh_mark
   pub others : Inside 0 n marks marks'
 
--- among the flows below m: a marked one, or n if none is
-pub record ChosenIs (marks : List ℕ) (n m r : ℕ) : Type 0 where
-  pub most : r ≤ n
-  pub marked : r < n → values marks r ≡ 0 → ⊥
-  pub none : n ≤ r → (b : ℕ) → b < m → values marks b ≡ 0
+-- among the flows below m: a marked one, or nothing if none is
+abbrev pub ChosenIs : List ℕ → ℕ → Option ℕ → Type 0
+ChosenIs marks m None = (b : ℕ) → b < m → values marks b ≡ 0
+ChosenIs marks m (Some a) = (a < m) × (values marks a ≡ 0 → ⊥)

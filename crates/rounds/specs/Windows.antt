@@ -1,5 +1,5 @@
 -- How far a turn looks, and how many are left after it.
-use Rattle.std.specs.Prelude.{◌≡◌, ℕ, ◌+◌, ◌-◌, ◌*◌, ◌/◌, ◌≤◌, ◌<◌, eqb, leb}
+use Rattle.std.specs.Prelude.{◌≡◌, Bool, true, false, ℕ, ◌+◌, ◌-◌, ◌*◌, ◌/◌, ◌≤◌, ◌<◌, eqb, leb}
 use Rattle.least.specs.Count.{pick}
 use Rattle.rounds.specs.Rounds.{fresh_mark}
 
@@ -16,7 +16,7 @@ abbrev pub reach_in : ℕ → ℕ → ℕ → ℕ
 reach_in turns steps busy = pick (leb turns 1) busy (pick (leb steps few_steps) busy (near_steps turns * (1 + busy / steps)))
 
 -- the turns left after one that looked so far: none if that was all; otherwise one less, or all anew where something rose
-pub record TurnsLeft (turns rose far busy t : ℕ) : Type 0 where
+pub record TurnsLeft (turns : ℕ) (rose : Bool) (far busy t : ℕ) : Type 0 where
   pub none : busy ≤ far → t ≡ 0
-  pub less : far < busy → rose ≡ 0 → t ≡ turns - 1
-  pub anew : far < busy → (rose ≡ 0 → ⊥) → t ≡ fresh_mark
+  pub less : far < busy → rose ≡ false → t ≡ turns - 1
+  pub anew : far < busy → rose ≡ true → t ≡ fresh_mark

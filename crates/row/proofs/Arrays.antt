@@ -1,24 +1,23 @@
 -- What the list of a row says of its array; a flow put at its end, the searches through it, the last number, the ways out of refusals 2 to 6.
-use Prim.Native.Nat.{ℕ, zero, suc, ◌+◌, ◌-◌, ◌≤◌, ◌<◌}
+use Prim.Native.Nat.{ℕ, zero, suc, ◌+◌, ◌-◌, ◌≤◌, ◌<◌, min}
 use mathlib.Core.Path.{◌≡◌, refl, sym, ap, ◌∙◌}
-use mathlib.Core.Bool.{Bool, true, false, cond, not}
+use mathlib.Core.Bool.{Bool, true, false, cond, false≢true}
 use mathlib.Core.List.{List, [], ◌∷◌, ◌++◌}
 use native.Mathlib.Numerals.{add-one}
 use native.Mathlib.Omega.{arith}
 use lib.ListN.{length, get_or, take, drop, set, replicate, length-append, length-take, drop_of_length-le, get_or-eq_default}
 use lib.Seq.{set-append_seam, append_snoc, take-append_seam, drop-cons, get_or-take}
 use lib.Dec.{leb, ltb}
-use borrow.Author.Tests.{eq-eqb, ne_eqb, lt-ltb, le-ltb, le-leb, lt-leb, not-true, not-false}
+use borrow.Author.Tests.{le-leb, lt-leb}
 use Rattle.flows.specs.declared.Flow.{Flow}
 use Rattle.flows.specs.declared.Row.{Row}
 use Rattle.flows.specs.Lists.{most_flows, no_flow, held, row_of}
-use Rattle.row.specs.declared.Found.TheVariants.{At, Nothing}
-use Rattle.row.specs.Rows.{placed, first_of, place_of, rank_of, found_in, appended, last_number, entry_cause}
+use Rattle.std.specs.Prelude.{Option, Some, None, is_some, Ok, Err}
 use Rattle.flows.specs.declared.Cause.{Cause}
-use Rattle.flows.specs.declared.Cause.TheVariants.{Accepted, Present, Full}
-use Rattle.flows.specs.Refusals.{accepted_by}
+use Rattle.row.specs.Rows.{placed, first_of, place_of, found_in, appended, last_number, entry_cause}
+use Rattle.flows.specs.declared.Cause.TheVariants.{Present, Full}
+use Rattle.flows.specs.Refusals.{Ruling, accepted}
 use Rattle.flows.specs.Tests.{flow_cause}
-use Rattle.row.specs.declared.Found.{Found}
 
 -- what is read within a list does not depend on the default
 pub get_d_any : {A : Type 0} (l : List A) (i : ℕ) (d e : A) → i < length l → get_or l i d ≡ get_or l i e
@@ -49,13 +48,9 @@ module _ {A : Type 0} (all : List A) (count : ℕ) where
   used_at k d h = get_or-take count all k d (omega (arith, length-take count all))
 
 module _ (row : Row) (len : length row.flows ≡ most_flows) where
-  pub size_all : most_flows < row.count → most_flows ≡ length (held row)
+  pub size_capped : (n : ℕ) → n ≡ min row.count most_flows → n ≡ length (held row)
   unfolding held
-  size_all h = used_all row.flows row.count len h
-
-  pub size_count : row.count ≤ most_flows → row.count ≡ length (held row)
-  unfolding held
-  size_count h = used_count row.flows row.count len h
+  size_capped n e = omega (arith, length-take row.count row.flows)
 
   pub held_at : (k : ℕ) (d : Flow) → k < length (held row) → get_or (held row) k d ≡ get_or row.flows k d
   unfolding held
@@ -64,13 +59,8 @@ module _ (row : Row) (len : length row.flows ≡ most_flows) where
   pub flow_none : (k : ℕ) → length (held row) ≤ k → no_flow ≡ placed row k
   flow_none k h = sym (get_or-eq_default (held row) no_flow {n = k} h)
 
-  module _ (k : ℕ) (h : k < length (held row)) where
-    pub place_held : k < most_flows
-    unfolding held
-    place_held = omega (arith, length-take row.count row.flows)
-
-    pub flow_held : (d : Flow) → get_or row.flows k d ≡ placed row k
-    flow_held d = sym (held_at k d h) ∙ get_d_any (held row) k d no_flow h
+  pub flow_held : (k : ℕ) → k < length (held row) → (d : Flow) → get_or row.flows k d ≡ placed row k
+  flow_held k h d = sym (held_at k d h) ∙ get_d_any (held row) k d no_flow h
 
 pub take_counted : {A : Type 0} (l : List A) (k m : ℕ) → m ≡ length (take k l) → take m l ≡ take k l
 take_counted l zero m e = rw e
@@ -84,11 +74,7 @@ held_all row n e = take_counted row.flows row.count n e
 
 -- ---- a flow put at the end
 module _ (row : Row) (f : Flow) where
-  pub append_full : most_flows ≤ row.count → row ≡ appended row f
-  unfolding appended
-  append_full h = rw (le-leb _ _ h)
-
-  pub append_stored : row.count < most_flows → record { flows = set row.flows row.count f; count = row.count + 1 } ≡ appended row f
+  append_stored : row.count < most_flows → record { flows = set row.flows row.count f; count = row.count + 1 } ≡ appended row f
   unfolding appended
   append_stored h = rw (lt-leb _ _ h)
 
@@ -120,32 +106,20 @@ module _ {A : Type 0} (p : A → Bool) (l : List A) (k : ℕ) (d : A) (inv : fir
   unfolding first_of
   first-end h = let g : first_of p (drop k l) ≡ 0 = rw (drop_of_length-le l {i = k} h) in omega arith
 
-module _ (row : Row) (number n k : ℕ) (d : Flow) (len : length row.flows ≡ most_flows) (e : n ≡ length (held row)) where
-  module _ (inv : place_of number (held row) ≡ k + place_of number (drop k (held row))) where
-    pub place_more : k < n → ((get_or row.flows k d).number ≡ number → ⊥) → place_of number (held row) ≡ k + 1 + place_of number (drop (k + 1) (held row))
-    place_more h t = first_more _ (held row) k d inv (omega arith) (rw (held_at row len k d (omega arith)) (ne_eqb _ _ t))
+module _ (row : Row) (p : ℕ → Bool) (n k : ℕ) (d : Flow) (len : length row.flows ≡ most_flows) (e : n ≡ length (held row))
+    (inv : first_of (λ (f : Flow). p f.number) (held row) ≡ k + first_of (λ (f : Flow). p f.number) (drop k (held row))) (h : k < n) where
+  there : get_or (held row) k d ≡ get_or row.flows k d
+  there = held_at row len k d (omega arith)
 
-    pub place_here : k < n → (get_or row.flows k d).number ≡ number → k ≡ place_of number (held row)
-    place_here h t = first_here _ (held row) k d inv (omega arith) (rw (held_at row len k d (omega arith)) (eq-eqb _ _ t))
+  pub search_more : p (get_or row.flows k d).number ≡ false →
+      first_of (λ (f : Flow). p f.number) (held row) ≡ k + 1 + first_of (λ (f : Flow). p f.number) (drop (k + 1) (held row))
+  search_more t = first_more _ (held row) k d inv (omega arith) (rw there t)
 
-  module _ (inv : rank_of number (held row) ≡ k + rank_of number (drop k (held row))) where
-    pub rank_more : k < n → (get_or row.flows k d).number ≤ number → rank_of number (held row) ≡ k + 1 + rank_of number (drop (k + 1) (held row))
-    rank_more h t = first_more _ (held row) k d inv (omega arith) (rw (held_at row len k d (omega arith)) (le-ltb _ _ t))
+  pub search_here : p (get_or row.flows k d).number ≡ true → k ≡ first_of (λ (f : Flow). p f.number) (held row)
+  search_here t = first_here _ (held row) k d inv (omega arith) (rw there t)
 
-    pub rank_here : k < n → number < (get_or row.flows k d).number → k ≡ rank_of number (held row)
-    rank_here h t = first_here _ (held row) k d inv (omega arith) (rw (held_at row len k d (omega arith)) (lt-ltb _ _ t))
-
-pub search_end : (p : Flow → Bool) (fs : List Flow) (n k : ℕ) → n ≡ length fs → n ≤ k → first_of p fs ≡ k + first_of p (drop k fs) → k ≡ first_of p fs
-search_end p fs n k e h inv = first-end p fs k no_flow inv (omega arith)
-
-module _ (fs : List Flow) (number at n : ℕ) (e : at ≡ place_of number fs) (m : n ≡ length fs) where
-  pub found_at : at < n → At at ≡ found_in fs number
-  unfolding found_in
-  found_at h = rw (← e, ← m, lt-ltb _ _ h)
-
-  pub found_none : n ≤ at → Nothing ≡ found_in fs number
-  unfolding found_in
-  found_none h = rw (← e, ← m, le-ltb _ _ h)
+pub search_end : (p : Flow → Bool) (fs : List Flow) (n k : ℕ) → n ≡ length fs → k ≤ n → n ≤ k → first_of p fs ≡ k + first_of p (drop k fs) → n ≡ first_of p fs
+search_end p fs n k e h g inv = let r = first-end p fs k no_flow inv (omega arith) in omega arith
 
 -- ---- the last number
 pub last_none : (row : Row) (n : ℕ) → n ≡ length (held row) → n ≡ 0 → 0 ≡ last_number (held row)
@@ -165,31 +139,35 @@ last_at row n d len e h =
     ap (λ (f : Flow). f.number) (sym g) ∙ ap (λ (i : ℕ). (get_or (held row) (i - 1) no_flow).number) e
 
 -- ---- refusals 2 to 6
-module _ (fs : List Flow) (f : Flow) (cause : Cause) (e : cause ≡ flow_cause f) (t : Bool) (g : t ≡ accepted_by cause) where
-  pub entry_refused : not t ≡ true → cause ≡ entry_cause fs f
+module _ (fs : List Flow) (f : Flow) (r : Ruling) (e : r ≡ flow_cause f) where
+  pub entry_refused : (s : Ruling) (c : Cause) → r ≡ Err c → s ≡ Err c → s ≡ entry_cause fs f
   unfolding entry_cause
-  entry_refused h = rw (← e, ← g, not-true t h)
+  entry_refused s c g i = let h : flow_cause f ≡ Err c = sym e ∙ g in i ∙ rw h
 
-  module _ (h : not t ≡ false) (r : Found) (i : r ≡ found_in fs f.number) where
-    pub entry_present : (at : ℕ) → r ≡ At at → Present ≡ entry_cause fs f
+  module _ (x : Unit {0}) (g : r ≡ Ok x) (o : Option ℕ) (i : o ≡ found_in fs f.number) where
+    passed : flow_cause f ≡ accepted
+    passed = sym e ∙ g
+
+    pub entry_present : (t : Bool) → t ≡ is_some o → t ≡ true → Err Present ≡ entry_cause fs f
     unfolding entry_cause found_in
-    entry_present at j = rw (← e, ← g, not-false t h) (go (ltb (place_of f.number fs) (length fs)) i)
+    entry_present t j h = rw passed (go (ltb (place_of f.number fs) (length fs)) i)
       where
-        go : (b : Bool) → r ≡ cond b (At (place_of f.number fs)) Nothing → Present ≡ cond b Present (cond (leb most_flows (length fs)) Full Accepted)
+        go : (b : Bool) → o ≡ cond b (Some (place_of f.number fs)) None → Err Present ≡ cond b (Err Present) (cond (leb most_flows (length fs)) (Err Full) accepted)
         go true q = refl
-        go false q = let z : ◌≡◌ {A = ℕ} 0 1 = cc in absurd (omega arith)
+        go false q = absurd (false≢true (sym (ap is_some q) ∙ sym j ∙ h))
 
-    module _ (j : r ≡ Nothing) where
-      absent : entry_cause fs f ≡ cond (leb most_flows (length fs)) Full Accepted
+    module _ (t : Bool) (j : t ≡ is_some o) (h : t ≡ false) where
+      absent : entry_cause fs f ≡ cond (leb most_flows (length fs)) (Err Full) accepted
       unfolding entry_cause found_in
-      absent = rw (← e, ← g, not-false t h) (go (ltb (place_of f.number fs) (length fs)) i)
+      absent = rw passed (go (ltb (place_of f.number fs) (length fs)) i)
         where
-          go : (b : Bool) → r ≡ cond b (At (place_of f.number fs)) Nothing → cond b Present (cond (leb most_flows (length fs)) Full Accepted) ≡ cond (leb most_flows (length fs)) Full Accepted
-          go true q = let z : ◌≡◌ {A = ℕ} 0 1 = cc in absurd (omega arith)
+          go : (b : Bool) → o ≡ cond b (Some (place_of f.number fs)) None →
+              cond b (Err Present) (cond (leb most_flows (length fs)) (Err Full) accepted) ≡ cond (leb most_flows (length fs)) (Err Full) accepted
+          go true q = absurd (false≢true (sym h ∙ j ∙ ap is_some q))
           go false q = refl
 
-      pub entry_full : (n : ℕ) → n ≡ length fs → most_flows ≤ n → Full ≡ entry_cause fs f
+      pub entry_full : (n : ℕ) → n ≡ length fs → most_flows ≤ n → Err Full ≡ entry_cause fs f
       entry_full n m l = rw (absent, ← m, le-leb _ _ l)
 
-      pub entry_accepted : (n : ℕ) → n ≡ length fs → n < most_flows → Accepted ≡ entry_cause fs f
+      pub entry_accepted : (n : ℕ) → n ≡ length fs → n < most_flows → accepted ≡ entry_cause fs f
       entry_accepted n m l = rw (absent, ← m, lt-leb _ _ l)

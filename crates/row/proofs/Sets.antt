@@ -11,12 +11,11 @@ use lib.Dec.{eqb, leb, ltb}
 use borrow.Author.Tests.{ne_eqb, eqb-true, eqb-false, lt-ltb, le-ltb, ltb-true, ltb-false, le-leb, lt-leb, leb-true, leb-false}
 use Rattle.flows.specs.declared.Flow.{Flow}
 use Rattle.flows.specs.Lists.{most_flows}
-use Rattle.flows.specs.declared.Cause.{Cause}
-use Rattle.flows.specs.declared.Cause.TheVariants.{Accepted, Present, Full}
-use Rattle.flows.specs.Refusals.{accepted_by}
+use Rattle.flows.specs.declared.Cause.TheVariants.{Present, Full}
+use Rattle.flows.specs.Refusals.{Ruling, accepted, accepted_by}
 use Rattle.flows.specs.Tests.{flow_cause}
 use Rattle.flows.specs.WellFormed.{Exact, Each, each_none, each_more, Typed}
-use Rattle.row.specs.declared.Found.TheVariants.{At, Nothing}
+use Rattle.std.specs.Prelude.{Some, None, Err}
 use Rattle.row.specs.Rows.{first_of, place_of, found_in, insert_sorted, without, entry_cause, RisingBy, Rising, rising_none, rising-more}
 use Rattle.flows.proofs.Causes.{accepted_only, not_accepted, refused-never}
 use Rattle.row.specs.Sets.{Lacks, Enters, OfEntry, by_itself, number_taken, no_room, let_in}
@@ -194,11 +193,11 @@ at_place number (f ∷ fs) d h = go (eqb f.number number) refl h (λ i. at_place
     go true e i ih = eqb-true f.number number e
     go false e i ih = ih (omega arith)
 
-pub found-flow : (fs : List Flow) (number at : ℕ) (d : Flow) → found_in fs number ≡ At at → (at < length fs) × ((get_or fs at d).number ≡ number)
+pub found-flow : (fs : List Flow) (number at : ℕ) (d : Flow) → found_in fs number ≡ Some at → (at < length fs) × ((get_or fs at d).number ≡ number)
 unfolding found_in
 found-flow fs number at d h = go (ltb (place_of number fs) (length fs)) refl h
   where
-    go : (b : Bool) → ltb (place_of number fs) (length fs) ≡ b → cond b (At (place_of number fs)) Nothing ≡ At at →
+    go : (b : Bool) → ltb (place_of number fs) (length fs) ≡ b → cond b (Some (place_of number fs)) None ≡ Some at →
         (at < length fs) × ((get_or fs at d).number ≡ number)
     go true e i =
         let p : place_of number fs ≡ at = cc in
@@ -219,16 +218,16 @@ module _ (fs : List Flow) (f : Flow) where
   unfolding entry_cause
   entry-itself e = rw e
 
-  module _ (e : flow_cause f ≡ Accepted) where
-    entry_taken : place_of f.number fs < length fs → Present ≡ entry_cause fs f
+  module _ (e : flow_cause f ≡ accepted) where
+    entry_taken : place_of f.number fs < length fs → Err Present ≡ entry_cause fs f
     unfolding entry_cause
     entry_taken h = rw (e, lt-ltb _ _ h)
 
-    entry_filled : length fs ≤ place_of f.number fs → most_flows ≤ length fs → Full ≡ entry_cause fs f
+    entry_filled : length fs ≤ place_of f.number fs → most_flows ≤ length fs → Err Full ≡ entry_cause fs f
     unfolding entry_cause
     entry_filled h g = rw (e, le-ltb _ _ h, le-leb _ _ g)
 
-    entry_let_in : length fs ≤ place_of f.number fs → length fs < most_flows → Accepted ≡ entry_cause fs f
+    entry_let_in : length fs ≤ place_of f.number fs → length fs < most_flows → accepted ≡ entry_cause fs f
     unfolding entry_cause
     entry_let_in h g = rw (e, le-ltb _ _ h, lt-leb _ _ g)
 
@@ -256,7 +255,7 @@ module _ (fs : List Flow) (f : Flow) where
             let g = leb-false _ _ k in
             subst (OfEntry fs f) (entry_let_in e h g) (let_in (record { flow = formed f t e; lacks = lacks-all f.number fs h; room = g }))
 
-    entry-only : (c : Cause) → OfEntry fs f c → c ≡ entry_cause fs f
+    entry-only : (c : Ruling) → OfEntry fs f c → c ≡ entry_cause fs f
     entry-only c (by_itself d n o) =
         let e = (flow_exact f t d).1 o in
         sym e ∙ entry-itself (ap accepted_by e ∙ not_accepted d n)
@@ -272,15 +271,15 @@ module _ (fs : List Flow) (f : Flow) where
     pub entry_exact : Exact (entry_cause fs f) (OfEntry fs f)
     entry_exact = exact_from (OfEntry fs f) (entry_cause fs f) of_entry entry-only
 
-    pub entry_given : (r : Cause) → r ≡ entry_cause fs f → Exact r (OfEntry fs f)
+    pub entry_given : (r : Ruling) → r ≡ entry_cause fs f → Exact r (OfEntry fs f)
     entry_given r e = exact_as (OfEntry fs f) r (entry_cause fs f) e entry_exact
 
-    pub enters : entry_cause fs f ≡ Accepted → Enters fs f
-    enters e = go ((entry_exact Accepted).0 e)
+    pub enters : entry_cause fs f ≡ accepted → Enters fs f
+    enters e = go ((entry_exact accepted).0 e)
       where
-        go : OfEntry fs f Accepted → Enters fs f
+        go : OfEntry fs f accepted → Enters fs f
         go (by_itself c n o) = absurd (n refl)
         go (let_in n) = n
 
-    pub entered : Enters fs f → entry_cause fs f ≡ Accepted
-    entered n = (entry_exact Accepted).1 (let_in n)
+    pub entered : Enters fs f → entry_cause fs f ≡ accepted
+    entered n = (entry_exact accepted).1 (let_in n)

@@ -1,14 +1,11 @@
 -- Find, insert, remove, refusals 2 to 6 as tests, rising numbers: said of the list of flows that a row holds. Append is said of its array.
-use Rattle.std.specs.Prelude.{ℕ, suc, ◌+◌, ◌-◌, ◌<◌, Bool, cond, List, [], ◌∷◌, length, get_or, set, leb, ltb, eqb}
+use Rattle.std.specs.Prelude.{ℕ, suc, ◌+◌, ◌-◌, ◌<◌, Bool, cond, List, [], ◌∷◌, length, get_or, set, leb, ltb, eqb, Option, Some, None, Err}
 use Rattle.flows.specs.declared.Flow.{Flow}
 use Rattle.flows.specs.declared.Row.{Row}
-use Rattle.flows.specs.declared.Cause.{Cause}
-use Rattle.flows.specs.declared.Cause.TheVariants.{Accepted, Present, Full}
-use Rattle.flows.specs.Refusals.{first_cause}
+use Rattle.flows.specs.declared.Cause.TheVariants.{Present, Full}
+use Rattle.flows.specs.Refusals.{Ruling, accepted, first_cause}
 use Rattle.flows.specs.Lists.{most_flows, no_flow, held, row_of}
 use Rattle.flows.specs.Tests.{flow_cause}
-use Rattle.row.specs.declared.Found.{Found}
-use Rattle.row.specs.declared.Found.TheVariants.{At, Nothing}
 
 -- the flow at a place
 abbrev pub placed : Row → ℕ → Flow
@@ -25,8 +22,8 @@ place_of number fs = first_of (λ f. eqb f.number number) fs
 abbrev pub rank_of : ℕ → List Flow → ℕ
 rank_of number fs = first_of (λ f. ltb number f.number) fs
 
-unfoldable pub found_in : List Flow → ℕ → Found
-found_in fs number = cond (ltb (place_of number fs) (length fs)) (At (place_of number fs)) Nothing
+unfoldable pub found_in : List Flow → ℕ → Option ℕ
+found_in fs number = cond (ltb (place_of number fs) (length fs)) (Some (place_of number fs)) None
 
 -- a flow put before the first of a greater number
 unfoldable pub insert_sorted : Flow → List Flow → List Flow
@@ -49,11 +46,11 @@ unfoldable pub last_number : List Flow → ℕ
 last_number fs = (get_or fs (length fs - 1) no_flow).number
 
 -- 2 to 4 of the flow alone; 5: its number is taken; 6: no place is left. RULES, refusals
-unfoldable pub entry_cause : List Flow → Flow → Cause
+unfoldable pub entry_cause : List Flow → Flow → Ruling
 entry_cause fs f =
     first_cause (flow_cause f)
-    (cond (ltb (place_of f.number fs) (length fs)) Present
-    (cond (leb most_flows (length fs)) Full Accepted))
+    (cond (ltb (place_of f.number fs) (length fs)) (Err Present)
+    (cond (leb most_flows (length fs)) (Err Full) accepted))
 
 -- numbers above n, each above the one before
 pub data RisingBy {A : Type 0} (number : A → ℕ) : ℕ → List A → Type 0 where

@@ -1,8 +1,8 @@
 -- The sets that a plan can list, among them every set that a table holds; what lets a flow into one, and which of refusals 2 to 6 is given, exactly when.
-use Rattle.std.specs.Prelude.{ℕ, ◌<◌, ◌≤◌, ◌≡◌, List, length}
+use Rattle.std.specs.Prelude.{ℕ, ◌<◌, ◌≤◌, ◌≡◌, List, length, Err}
 use Rattle.flows.specs.declared.Flow.{Flow}
-use Rattle.flows.specs.declared.Cause.{Cause}
-use Rattle.flows.specs.declared.Cause.TheVariants.{Accepted, Present, Full}
+use Rattle.flows.specs.declared.Cause.TheVariants.{Present, Full}
+use Rattle.flows.specs.Refusals.{Ruling, accepted}
 use Rattle.flows.specs.WellFormed.{DelaysFit, WellFormed, OfFlow, Each, Typed}
 use Rattle.row.specs.Rows.{Rising}
 
@@ -25,8 +25,8 @@ pub record Enters (fs : List Flow) (f : Flow) : Type 0 where
   pub room : length fs < 16
 
 -- the lowest refusal from 2 to 6 that applies
-pub data OfEntry (fs : List Flow) (f : Flow) : Cause → Type 0 where
-  by_itself : (c : Cause) → (c ≡ Accepted → ⊥) → OfFlow f c → OfEntry fs f c
-  number_taken : WellFormed f → (Lacks f.number fs → ⊥) → OfEntry fs f Present
-  no_room : WellFormed f → Lacks f.number fs → 16 ≤ length fs → OfEntry fs f Full
-  let_in : Enters fs f → OfEntry fs f Accepted
+pub data OfEntry (fs : List Flow) (f : Flow) : Ruling → Type 0 where
+  by_itself : (c : Ruling) → (c ≡ accepted → ⊥) → OfFlow f c → OfEntry fs f c
+  number_taken : WellFormed f → (Lacks f.number fs → ⊥) → OfEntry fs f (Err Present)
+  no_room : WellFormed f → Lacks f.number fs → 16 ≤ length fs → OfEntry fs f (Err Full)
+  let_in : Enters fs f → OfEntry fs f accepted

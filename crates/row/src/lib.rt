@@ -1,31 +1,21 @@
 // The flows of a table in rising number: found, put in, taken out.
 #![tactic(auto)]
 
-ghost use Rattle.std.specs.Prelude.{◌≡◌, List, [], ◌++◌, ◌+◌, ◌-◌, ◌≤◌, ◌<◌, length, take, drop};
+ghost use Rattle.std.specs.Prelude.{◌≡◌, ℕ, Bool, List, [], ◌++◌, ◌+◌, ◌-◌, ◌≤◌, ◌<◌, length, take, drop};
 ghost use Rattle.flows.specs.declared.Flow.{Flow};
 ghost use Rattle.flows.specs.Lists.{most_flows, held, row_of};
 ghost use Rattle.flows.specs.WellFormed.{Exact, Typed};
-ghost use Rattle.row.specs.Rows.{placed, place_of, rank_of, found_in, without, inserted, appended, last_number, entry_cause};
+ghost use Rattle.row.specs.Rows.{placed, first_of, place_of, rank_of, found_in, without, inserted, appended, last_number, entry_cause};
 ghost use Rattle.row.specs.Sets.{OfEntry};
 
 use flows::{Cause, FLOWS, Flow, Row};
-
-#[derive(Clone, Copy)]
-pub enum Found {
-    At(usize),
-    Nothing,
-}
 
 // How many flows the row holds: no more than it has places.
 pub fn size(row: Row) -> usize
     ensures value { result ≡ length (held row) }
     ensures upper_bound { result ≤ most_flows }
 {
-    let n = row.count;
-    if FLOWS < n {
-        return FLOWS;
-    }
-    n
+    row.count.min(FLOWS)
 }
 
 // The flow at a place; behind the last, the one that is all zeros.
@@ -50,6 +40,7 @@ pub fn none() -> Row
 }
 
 // The flow at the end of the row; a full row is given back.
+#[tactic(auto, unfolding(crate::specs::Rows::appended))]
 pub fn append(row: Row, f: Flow) -> Row
     ensures { result ≡ appended row f }
 {
@@ -71,13 +62,25 @@ fn copy(start: Row, row: Row, a: usize, b: usize) -> Row
     ensures value { (fs : List Flow) → start ≡ row_of fs → result ≡ row_of (fs ++ take (b - a) (drop a row.flows)) }
 {
     let mut to = start;
-    let mut k = a;
-    while k < b {
-        let f = row.flows[k];
-        to = append(to, f);
-        k += 1;
+    for k in a..b {
+        to = append(to, row.flows[k]);
     }
     to
+}
+
+// How many flows stand before the first whose number passes a test.
+fn first<F: Fn(u8) -> bool>(row: Row, test: F) -> usize
+    requires { F.IsAlwaysCallable test }
+    ensures upper_bound { result ≤ length (held row) }
+    ensures value { (p : ℕ → Bool) → ((x : ℕ) (b : Bool) → F.post test x b → b ≡ p x) → result ≡ first_of (λ f. p f.number) (held row) }
+{
+    let n = size(row);
+    for k in 0..n {
+        if test(row.flows[k].number) {
+            return k;
+        }
+    }
+    n
 }
 
 // How many flows stand before the first of that number.
@@ -85,16 +88,7 @@ fn place(row: Row, number: u8) -> usize
     ensures upper_bound { result ≤ length (held row) }
     ensures value { result ≡ place_of number (held row) }
 {
-    let n = size(row);
-    let mut k = 0;
-    while k < n {
-        let f = row.flows[k];
-        if f.number == number {
-            return k;
-        }
-        k += 1;
-    }
-    k
+    first(row, |n| n == number)
 }
 
 // How many flows stand before the first of a greater number.
@@ -102,26 +96,15 @@ fn rank(row: Row, number: u8) -> usize
     ensures upper_bound { result ≤ length (held row) }
     ensures value { result ≡ rank_of number (held row) }
 {
-    let n = size(row);
-    let mut k = 0;
-    while k < n {
-        let f = row.flows[k];
-        if number < f.number {
-            return k;
-        }
-        k += 1;
-    }
-    k
+    first(row, |n| number < n)
 }
 
-pub fn find(row: Row, number: u8) -> Found
+#[tactic(auto, unfolding(crate::specs::Rows::found_in))]
+pub fn find(row: Row, number: u8) -> Option<usize>
     ensures { result ≡ found_in (held row) number }
 {
     let at = place(row, number);
-    if at < size(row) {
-        return Found::At(at);
-    }
-    Found::Nothing
+    if at < size(row) { Some(at) } else { None }
 }
 
 // The row with the flow before the first of a greater number; a full row is given back.
@@ -157,25 +140,21 @@ pub fn last_number(row: Row) -> u8
     if n == 0 {
         return 0;
     }
-    let f = row.flows[n - 1];
-    f.number
+    row.flows[n - 1].number
 }
 
 // Refusals 2 to 6, the lowest number first; f is typed, as flow_cause says.
-pub fn entry_cause(row: Row, f: Flow) -> Cause
+pub fn entry_cause(row: Row, f: Flow) -> Result<(), Cause>
     ensures value { result ≡ entry_cause (held row) f }
     ensures exact { Exact result (OfEntry (held row) f) }
     ensures typed { Typed f }
 {
-    let cause = flows::flow_cause(f);
-    if !flows::accepted(cause) {
-        return cause;
+    flows::flow_cause(f)?;
+    if find(row, f.number).is_some() {
+        return Err(Cause::Present);
     }
-    let Found::Nothing = find(row, f.number) else {
-        return Cause::Present;
-    };
     if FLOWS <= size(row) {
-        return Cause::Full;
+        return Err(Cause::Full);
     }
-    Cause::Accepted
+    Ok(())
 }

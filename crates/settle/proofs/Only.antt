@@ -1,12 +1,14 @@
 -- Any two outcomes that the contract of `settle` allows are equal, for a valid set with busy lengths. Assumes nothing.
 use mathlib.Core.Path.{◌≡◌, refl, sym, ◌∙◌}
-use mathlib.Core.Bool.{Bool, true, false}
 use mathlib.Core.Logic.{inl, inr}
 use mathlib.Core.List.{List}
 use Prim.Native.Nat.{ℕ, ◌≤◌, ◌<◌}
 use native.Mathlib.Omega.{arith}
 use native.Mathlib.Nat.{le_of_eq}
 use lib.ListN.{length}
+use Rattle.std.specs.declared.result.Result.{Result}
+use Rattle.std.specs.declared.result.Result.TheVariants.{Ok, Err}
+use Rattle.starts.specs.declared.PastHorizon.{PastHorizon}
 use Rattle.least.proofs.Count.{le_or-lt}
 use Rattle.rules.specs.Net.{Flow, Net}
 use Rattle.rules.specs.Meaning.{Here}
@@ -35,17 +37,17 @@ module _ (net busies : List ℕ) (valid : Valid (net_in net)) (ready : (i : Flow
   abbrev w : ℕ
   w = room_in net
 
-  past_one : (past past' : Bool) (replies replies' : List ℕ) → SettleIs net busies past replies → SettleIs net busies past' replies' → past ≡ past'
-  past_one true true replies replies' s s' = refl
-  past_one true false replies replies' s s' = absurd (s.outcome valid ready busy (arrivals_in N w replies') (s'.outcome valid ready busy).least.settled)
-  past_one false true replies replies' s s' = absurd (s'.outcome valid ready busy (arrivals_in N w replies) (s.outcome valid ready busy).least.settled)
-  past_one false false replies replies' s s' = refl
+  given_one : (given given' : Result (Unit {0}) PastHorizon) (replies replies' : List ℕ) → SettleIs net busies given replies → SettleIs net busies given' replies' → given ≡ given'
+  given_one (Err past) (Err past') replies replies' s s' = refl
+  given_one (Err past) (Ok done) replies replies' s s' = absurd (s.outcome valid ready busy (arrivals_in N w replies') (s'.outcome valid ready busy).least.settled)
+  given_one (Ok done) (Err past) replies replies' s s' = absurd (s'.outcome valid ready busy (arrivals_in N w replies) (s.outcome valid ready busy).least.settled)
+  given_one (Ok done) (Ok done') replies replies' s s' = refl
 
   -- of flow b at place k, which it has or not
-  at_one : (past : Bool) (replies replies' : List ℕ) → SettleIs net busies past replies → SettleIs net busies past replies' →
+  at_one : (given : Result (Unit {0}) PastHorizon) (replies replies' : List ℕ) → SettleIs net busies given replies → SettleIs net busies given replies' →
       (b k : ℕ) → k < w → held w replies b k ≡ held w replies' b k
-  at_one true replies replies' s s' b k m = s.bare b k m (inl (omega arith)) ∙ sym (s'.bare b k m (inl (omega arith)))
-  at_one false replies replies' s s' b k m = elim (le_or-lt (count_in net) b) [
+  at_one (Err past) replies replies' s s' b k m = s.bare b k m (inl (omega arith)) ∙ sym (s'.bare b k m (inl (omega arith)))
+  at_one (Ok done) replies replies' s s' b k m = elim (le_or-lt (count_in net) b) [
     | inl h ↦ s.bare b k m (inl h) ∙ sym (s'.bare b k m (inl h))
     | inr h ↦ elim (le_or-lt (length_in net b) k) [
       | inl g ↦ s.bare b k m (inr g) ∙ sym (s'.bare b k m (inr g))
@@ -63,8 +65,8 @@ module _ (net busies : List ℕ) (valid : Valid (net_in net)) (ready : (i : Flow
     ]
   ]
 
-  pub settle_one : (past past' : Bool) (replies replies' : List ℕ) → SettleIs net busies past replies → SettleIs net busies past' replies' →
-      (past ≡ past') × ((b k : ℕ) → k < room_in net → held (room_in net) replies b k ≡ held (room_in net) replies' b k)
-  settle_one past past' replies replies' s s' =
-      let q : past ≡ past' = past_one past past' replies replies' s s' in
-      (q, at_one past' replies replies' (rw q at s) s')
+  pub settle_one : (given given' : Result (Unit {0}) PastHorizon) (replies replies' : List ℕ) → SettleIs net busies given replies → SettleIs net busies given' replies' →
+      (given ≡ given') × ((b k : ℕ) → k < room_in net → held (room_in net) replies b k ≡ held (room_in net) replies' b k)
+  settle_one given given' replies replies' s s' =
+      let q : given ≡ given' = given_one given given' replies replies' s s' in
+      (q, at_one given' replies replies' (rw q at s) s')

@@ -1,11 +1,14 @@
 -- Turns until no flow is marked. Assumes nothing.
-use mathlib.Core.Path.{◌≡◌, subst}
-use mathlib.Core.Bool.{Bool, true, false}
+use mathlib.Core.Path.{◌≡◌, ap}
 use mathlib.Core.Logic.{inl, inr}
 use mathlib.Core.List.{List}
-use Prim.Native.Nat.{ℕ, ◌+◌, ◌*◌, ◌≤◌, ◌<◌}
+use Rattle.std.specs.Prelude.{Option, None}
+use Prim.Native.Nat.{ℕ, ◌+◌, ◌*◌, ◌≤◌}
 use native.Mathlib.Omega.{arith}
-use lib.ListN.{length, get_or-eq_default}
+use lib.ListN.{replicate, get_or-eq_default, length-replicate}
+use Rattle.std.proofs.lemmas.List.{get_or-replicate}
+use Rattle.std.specs.declared.result.Result.TheVariants.{Ok, Err}
+use Rattle.starts.specs.declared.PastHorizon.{PastHorizon}
 use Rattle.least.specs.Lists.{values}
 use Rattle.least.proofs.Count.{le_or-lt}
 use Rattle.rules.specs.Net.{Flow, Net}
@@ -17,16 +20,15 @@ use Rattle.nets.specs.Nets.{count_in, room_in, net_in}
 use Rattle.nets.proofs.Reading.{flows_length}
 use Rattle.ascent.specs.Good.{Good}
 use Rattle.rounds.specs.Rounds.{ChosenIs}
-use Rattle.settle.specs.Turns.{Fair, BusiesAre, Keeps, TurnIs, SettleIs}
+use Rattle.settle.specs.Turns.{Fair, BusiesAre, TurnIs, SettleIs}
 use Rattle.ascent.proofs.Steps.{good_start, good_end}
 
--- each number of l was set to x
-module _ (l l' : List ℕ) (x : ℕ) (set : (k : ℕ) → k < length l → values l' k ≡ x) (long : length l' ≡ length l) where
-  most : (k : ℕ) → values l' k ≤ x
-  most k = elim (le_or-lt (length l') k) [
-    | inl h ↦ omega (arith, get_or-eq_default l' 0 {n = k} h)
-    | inr h ↦ omega (arith, set k (omega arith))
-  ]
+-- n times x
+most : (n x k : ℕ) → values (replicate n x) k ≤ x
+most n x k = elim (le_or-lt n k) [
+  | inl h ↦ omega (arith, get_or-eq_default (replicate n x) 0 {n = k} (omega (arith, length-replicate n x)))
+  | inr h ↦ omega (arith, get_or-replicate {A = ℕ} n k x 0 h)
+]
 
 module _ (net busies : List ℕ) where
   abbrev N : Net
@@ -35,46 +37,53 @@ module _ (net busies : List ℕ) where
   abbrev w : ℕ
   w = room_in net
 
-  pub record Settling (replies marks : List ℕ) (a : ℕ) : Type 0 where
+  pub record Settling (replies marks : List ℕ) (chosen : Option ℕ) : Type 0 where
     pub fair : Fair net replies marks
-    pub chosen : ChosenIs marks (count_in net) (count_in net) a
+    pub chosen_is : ChosenIs marks (count_in net) chosen
     pub good : Valid N → ((i : Flow) → Here N i → Ready N i) → BusiesAre net busies → Good N w replies marks
 
-  -- response bounds that were set to 0
-  module _ (replies₀ zeros : List ℕ) (none : (k : ℕ) → k < length replies₀ → values zeros k ≡ 0) (same : length zeros ≡ length replies₀) where
-    zero-at : (k : ℕ) → values zeros k ≡ 0
-    zero-at k = omega (arith, most replies₀ zeros 0 none same k)
+  pub settling_start : (r m : ℕ) (replies marks : List ℕ) → replies ≡ replicate r 0 → marks ≡ replicate m 1 → count_in net ≤ m → (chosen : Option ℕ) →
+      ChosenIs marks (count_in net) chosen → Settling replies marks chosen
+  settling_start r m replies marks zero one room chosen is = record {
+    fair = record {
+      low = λ x. omega (arith, none x);
+      bare = λ b k h q. none (b * w + k);
+      flags = λ b h. omega (arith, ap (λ l. values l b) one, most m 1 b);
+    };
+    chosen_is = is;
+    good = λ val ready busy.
+        good_start N val ready w replies marks none
+        (λ b h z. absurd (omega (arith, ap (λ l. values l b) one, get_or-replicate {A = ℕ} m b 1 0 (omega (arith, flows_length net)))));
+  }
+    where
+      none : (k : ℕ) → values replies k ≡ 0
+      none k = omega (arith, ap (λ l. values l k) zero, most r 0 k)
 
-    pub settling_start : (marks₀ marks : List ℕ) → ((b : ℕ) → b < length marks₀ → values marks b ≡ 1) → length marks ≡ length marks₀ → count_in net ≤ length marks₀ →
-        (a : ℕ) → ChosenIs marks (count_in net) (count_in net) a → Settling zeros marks a
-    settling_start marks₀ marks all long room a chosen = record {
-      fair = record { low = λ x. omega (arith, zero-at x); bare = λ b k h q. zero-at (b * w + k); flags = λ b h. omega (arith, most marks₀ marks 1 all long b) };
-      chosen = chosen;
-      good = λ val ready busy. good_start N val ready w zeros marks zero-at (λ b h z. omega (arith, flows_length net, all b (omega (arith, flows_length net))));
+  module _ (replies marks : List ℕ) (chosen : Option ℕ) (s : Settling replies marks chosen) (a : ℕ) (replies' marks' : List ℕ) where
+    pub settling_past : (past : PastHorizon) → TurnIs net busies replies marks a (Err past) replies' marks' → (r : ℕ) (zeros : List ℕ) → zeros ≡ replicate r 0 →
+        SettleIs net busies (Err past) zeros
+    settling_past past turn r zeros zero = record {
+      outcome = λ val ready busy. turn.keeps val ready busy (s.good val ready busy);
+      low = λ x. omega (arith, none x);
+      bare = λ b k h q. none (b * w + k);
     }
+      where
+        none : (k : ℕ) → values zeros k ≡ 0
+        none k = omega (arith, ap (λ l. values l k) zero, most r 0 k)
 
-    pub settling_past : (replies marks : List ℕ) (a : ℕ) → Settling replies marks a → (past : Bool) (replies' marks' : List ℕ) →
-        TurnIs net busies replies marks a past replies' marks' → past ≡ true → SettleIs net busies true zeros
-    settling_past replies marks a s past replies' marks' turn e = record {
-      outcome = λ val ready busy. subst (λ b. Keeps N w b replies' marks') e (turn.keeps val ready busy (s.good val ready busy));
-      low = λ x. omega (arith, zero-at x);
-      bare = λ b k h q. zero-at (b * w + k);
-    }
-
-  module _ (replies marks : List ℕ) (a : ℕ) (s : Settling replies marks a) where
-    pub settling_more : (past : Bool) (replies' marks' : List ℕ) → TurnIs net busies replies marks a past replies' marks' → past ≡ false → Fair net replies' marks' →
-        (a' : ℕ) → ChosenIs marks' (count_in net) (count_in net) a' → Settling replies' marks' a'
-    settling_more past replies' marks' turn e fair a' chosen = record {
+    pub settling_more : TurnIs net busies replies marks a (Ok tt) replies' marks' → Fair net replies' marks' → (chosen' : Option ℕ) →
+        ChosenIs marks' (count_in net) chosen' → Settling replies' marks' chosen'
+    settling_more turn fair chosen' is = record {
       fair = fair;
-      chosen = chosen;
-      good = λ val ready busy. subst (λ b. Keeps N w b replies' marks') e (turn.keeps val ready busy (s.good val ready busy));
+      chosen_is = is;
+      good = λ val ready busy. turn.keeps val ready busy (s.good val ready busy);
     }
 
-    pub settling_end : count_in net ≤ a → SettleIs net busies false replies
-    unfolding horizon
-    settling_end h = record {
-      outcome = λ val ready busy.
-          good_end N val ready w replies marks (s.good val ready busy) (λ b q. s.chosen.none h b (omega (arith, flows_length net))) s.fair.low;
-      low = s.fair.low;
-      bare = s.fair.bare;
-    }
+  pub settling_end : (replies marks : List ℕ) → Settling replies marks None → SettleIs net busies (Ok tt) replies
+  unfolding horizon
+  settling_end replies marks s = record {
+    outcome = λ val ready busy.
+        good_end N val ready w replies marks (s.good val ready busy) (λ b q. s.chosen_is b (omega (arith, flows_length net))) s.fair.low;
+    low = s.fair.low;
+    bare = s.fair.bare;
+  }

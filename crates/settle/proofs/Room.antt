@@ -1,20 +1,17 @@
 -- What is lent has room for a flow's sheet and for what is kept of its nodes, and goes on having it. Assumes nothing.
 use mathlib.Core.Path.{◌≡◌}
 use mathlib.Core.List.{List}
-use Prim.Native.Nat.{ℕ, ◌+◌, ◌*◌, ◌≤◌, ◌<◌}
+use Prim.Native.Nat.{ℕ, ◌+◌, ◌≤◌, ◌<◌}
 use native.Mathlib.Nat.{mul-le-mul_right}
 use native.Mathlib.Omega.{arith}
 use lib.ListN.{length}
-use Rattle.nets.specs.Nets.{count_in, room_in, length_in}
+use Rattle.nets.specs.Nets.{count_in, room_in}
 use Rattle.blocks.specs.Sheet.{entries_in, Small}
 use Rattle.steps.specs.Kept.{kept_size}
 use Rattle.starts.specs.Kept.{Strided}
 use Rattle.settle.specs.Turns.{Room}
 
 module _ {net busies replies marks sheet slots steps best : List ℕ} (room : Room net busies replies marks sheet slots steps best) where
-  pub sheet_fits : (a : ℕ) → 1 + length_in net a * (3 + 5 * count_in net) ≤ length sheet
-  sheet_fits a = omega (arith, room.sheet_long, mul-le-mul_right {m = length_in net a} {n = room_in net} (3 + 5 * count_in net) (omega arith))
-
   pub steps_fit : (e : List ℕ) (m n : ℕ) → m ≤ room_in net → n ≡ count_in net → ((p : ℕ) → p < m → entries_in e p ≤ count_in net) →
       Strided e (kept_size + n) m steps
   steps_fit e m n h is few = record {

@@ -6,6 +6,10 @@ use mathlib.Core.List.{List}
 use Prim.Native.Nat.{ℕ, ◌+◌, ◌-◌, ◌*◌, ◌≤◌, ◌<◌, max}
 use native.Mathlib.Omega.{arith}
 use native.Mathlib.Nat.{le_refl, le_of_eq, mul-le-mul_right}
+use Rattle.std.specs.Prelude.{IsErr}
+use Rattle.std.specs.declared.result.Result.{Result}
+use Rattle.std.specs.declared.result.Result.TheVariants.{Ok, Err}
+use Rattle.starts.specs.declared.PastHorizon.{PastHorizon}
 use lib.Dec.{eqb}
 use lib.ListN.{length, set}
 use lib.Seq.{get_or-set_same, get_or-set_other, ext_get_or}
@@ -59,7 +63,7 @@ pub whole : (w m a n : ℕ) → m ≤ w → a < n → a * w + m ≤ n * w
 whole w m a n short h = omega (arith, mul-le-mul_right {m = a + 1} {n = n} w (omega arith))
 
 -- raised at m places
-module _ (replies best : List ℕ) (at m : ℕ) (replies' : List ℕ) (rose : ℕ) (raised : RaisedIs replies best at m replies' rose) where
+module _ (replies best : List ℕ) (at m : ℕ) (replies' : List ℕ) (rose : Bool) (raised : RaisedIs replies best at m replies' rose) where
   by_place : (x : ℕ) → (values replies' x ≡ values replies x) ⊎ ((x - at < m) × (at + (x - at) ≡ x))
   by_place x = elim (le_or-lt at x) [
     | inl h ↦ elim (le_or-lt (at + m) x) [ inl g ↦ inl (raised.others.behind x g) | inr g ↦ inr (omega arith, omega arith) ]
@@ -72,7 +76,7 @@ module _ (replies best : List ℕ) (at m : ℕ) (replies' : List ℕ) (rose : �
     | inr p ↦ subst (λ y. values replies y ≤ values replies' y) p.1 (omega (arith, raised.inside (x - at) p.0))
   ]
 
-  still-same : rose ≡ 0 → replies' ≡ replies
+  still-same : rose ≡ false → replies' ≡ replies
   still-same z = ext_get_or 0 replies' replies raised.others.long (λ x h. at_place x)
     where
       at_place : (x : ℕ) → values replies' x ≡ values replies x
@@ -81,7 +85,7 @@ module _ (replies best : List ℕ) (at m : ℕ) (replies' : List ℕ) (rose : �
         | inr p ↦ subst (λ y. values replies' y ≡ values replies y) p.1 (omega (arith, raised.inside (x - at) p.0, raised.still z (x - at) p.0))
       ]
 
-  more : (size : ℕ) → at + m ≤ size → (rose ≡ 0 → ⊥) → total size replies < total size replies'
+  more : (size : ℕ) → at + m ≤ size → rose ≡ true → total size replies < total size replies'
   more size fits z =
       let r = raised.risen z in
       sum_to-lt size (at + r.0) (values replies) (values replies') (omega (arith, r.1)) (λ j q. grows j) (omega (arith, raised.inside r.0 r.1, r.2))
@@ -121,16 +125,16 @@ module _ {n : ℕ} {marks marks' : List ℕ} {a t : ℕ} (turned : Turned n mark
   turned_clear = by-flow (λ b v. v ≡ 0 → ((b ≡ a) × (t ≡ 0)) ⊎ (values marks b ≡ 0)) (λ z. inl (refl, z)) (λ b on z. inr z)
 
 -- a look at the sheet of flow a, from the bounds so far: with its last turn over all of its busy length
-pub record Ran (net busies replies marks : List ℕ) (a : ℕ) (sheet : List ℕ) (m far : ℕ) (best₀ : List ℕ) (past : Bool) (best : List ℕ) : Type 0 where
+pub record Ran (net busies replies marks : List ℕ) (a : ℕ) (sheet : List ℕ) (m far : ℕ) (best₀ : List ℕ) (given : Result (Unit {0}) PastHorizon) (best : List ℕ) : Type 0 where
   pub on : a < count_in net
   pub written : Valid (net_in net) → SheetIs (net_in net) (room_in net) (values replies) a sheet
   pub long : m ≡ length_in net a
   pub held : (k : ℕ) → k < m → values best₀ k ≡ values replies (a * room_in net + k)
-  pub look : LookIs sheet m far (values busies a) best₀ past best
+  pub look : LookIs sheet m far (values busies a) best₀ given best
   pub last : values marks a ≤ 1 → values busies a ≤ far
 
-module _ {net busies replies marks : List ℕ} {a : ℕ} {sheet : List ℕ} {m far : ℕ} {best₀ : List ℕ} {past : Bool} {best : List ℕ}
-    (ran : Ran net busies replies marks a sheet m far best₀ past best) where
+module _ {net busies replies marks : List ℕ} {a : ℕ} {sheet : List ℕ} {m far : ℕ} {best₀ : List ℕ} {given : Result (Unit {0}) PastHorizon} {best : List ℕ}
+    (ran : Ran net busies replies marks a sheet m far best₀ given best) where
   abbrev N : Net
   N = net_in net
 
@@ -150,8 +154,8 @@ module _ {net busies replies marks : List ℕ} {a : ℕ} {sheet : List ℕ} {m f
     its_busy : values busies a ≡ busy_length N (flow_at N a)
     its_busy = busy a ran.on ∙ ap (busy_length N) (sym (flow_at_lem net a ran.on))
 
-    its-look : LookIs sheet (length (flow_at N a).path) far (values busies a) best₀ past best
-    its-look = subst (λ c. LookIs sheet c far (values busies a) best₀ past best) (ran.long ∙ sym (path_long net a ran.on)) ran.look
+    its-look : LookIs sheet (length (flow_at N a).path) far (values busies a) best₀ given best
+    its-look = subst (λ c. LookIs sheet c far (values busies a) best₀ given best) (ran.long ∙ sym (path_long net a ran.on)) ran.look
 
     its-ready : Ready N (flow_at N a)
     its-ready = ready (flow_at N a) (flow_here_lem N a (here a ran.on))
@@ -159,60 +163,61 @@ module _ {net busies replies marks : List ℕ} {a : ℕ} {sheet : List ℕ} {m f
     its_starts : StartsOf sheet (length (flow_at N a).path) (times N val w (values replies) a (here a ran.on) sheet (ran.written val))
     its_starts = starts N val w (values replies) a (here a ran.on) sheet (ran.written val) its-ready
 
-    module _ (good : Good N w replies marks) (clear : past ≡ false) (k : ℕ) (h : k < length (flow_at N a).path) where
+    module _ (good : Good N w replies marks) (clear : given ≡ Ok tt) (k : ℕ) (h : k < length (flow_at N a).path) where
       best-below : values best k ≤ due N w replies a k
       best-below =
-          its-look.below clear _ its_starts k h (due N w replies a k)
+          (rw clear at its-look.below) _ its_starts k h (due N w replies a k)
           (replies_below N val w (values replies) a (here a ran.on) sheet (ran.written val) its-ready k h)
           (omega (arith, ran.held k (omega (arith, ran.long, path_long net a ran.on)), good.up a k (here a ran.on) h))
 
       best-is : values busies a ≤ far → due N w replies a k ≤ values best k
       best-is full = omega (
         arith,
-        its-look.all clear full _ its_starts k h,
+        (rw clear at its-look.all) full _ its_starts k h,
         ap (best_to (reply_at sheet (times N val w (values replies) a (here a ran.on) sheet (ran.written val)) k)) its_busy,
         replies_best N val w (values replies) a (here a ran.on) sheet (ran.written val) its-ready k h,
       )
 
-    past_is : past ≡ true → (k : ℕ) × (k < length (flow_at N a).path) × (horizon < due N w replies a k)
+    past_is : {past : PastHorizon} → given ≡ Err past → (k : ℕ) × (k < length (flow_at N a).path) × (horizon < due N w replies a k)
     past_is e =
-        let q = its-look.over e _ its_starts in
+        let q = (rw e at its-look.over) _ its_starts in
         replies_past N val w (values replies) a (here a ran.on) sheet (ran.written val) its-ready q.0 q.1
 
-  pub turn_past : past ≡ true → TurnIs net busies replies marks a true replies marks
-  turn_past e = record {
-    falls = λ f. false_true (sym f);
+  pub turn_past : {past : PastHorizon} → given ≡ Err past → (given' : Result (Unit {0}) PastHorizon) → IsErr given' → TurnIs net busies replies marks a given' replies marks
+  turn_past e (Ok done) q = absurd (false_true q)
+  turn_past e (Err past') q = record {
+    falls = tt;
     keeps = λ val ready busy good. (let q = past_is val ready busy e in good_past N val ready w replies marks good a q.0 (here a ran.on) q.1 q.2);
   }
 
-  module _ (clear : past ≡ false) {at : ℕ} (first : at ≡ a * room_in net) {replies' : List ℕ} {rose : ℕ} (raised : RaisedIs replies best at m replies' rose)
+  module _ (clear : given ≡ Ok tt) {at : ℕ} (first : at ≡ a * room_in net) {replies' : List ℕ} {rose : Bool} (raised : RaisedIs replies best at m replies' rose)
       {t : ℕ} (lowered : TurnsLeft (values marks a) rose far (values busies a) t) (fair : Fair net replies marks) where
     -- it has none only after a look over all
     none-full : t ≡ 0 → values busies a ≤ far
     none-full z = elim (le_or-lt (values busies a) far) [
       | inl h ↦ h
-      | inr h ↦ elim (le_or-lt (values marks a) 1) [ inl g ↦ ran.last g | inr g ↦ some h (eqb rose 0) refl g ]
+      | inr h ↦ elim (le_or-lt (values marks a) 1) [ inl g ↦ ran.last g | inr g ↦ some h rose refl g ]
     ]
       where
-        some : far < values busies a → (x : Bool) → eqb rose 0 ≡ x → 1 < values marks a → values busies a ≤ far
-        some h true e g = absurd (omega (arith, lowered.less h (eqb-true rose 0 e)))
-        some h false e g = absurd (omega (arith, lowered.anew h (eqb-false rose 0 e)))
+        some : far < values busies a → (x : Bool) → rose ≡ x → 1 < values marks a → values busies a ≤ far
+        some h false e g = absurd (omega (arith, lowered.less h e))
+        some h true e g = absurd (omega (arith, lowered.anew h e))
 
     few_turns : t ≤ fresh_mark
     few_turns = elim (le_or-lt (values busies a) far) [
       | inl h ↦ omega (arith, lowered.none h)
-      | inr h ↦ some h (eqb rose 0) refl
+      | inr h ↦ some h rose refl
     ]
       where
-        some : far < values busies a → (x : Bool) → eqb rose 0 ≡ x → t ≤ fresh_mark
-        some h true e = omega (arith, lowered.less h (eqb-true rose 0 e), fair.flags a ran.on)
-        some h false e = omega (arith, lowered.anew h (eqb-false rose 0 e))
+        some : far < values busies a → (x : Bool) → rose ≡ x → t ≤ fresh_mark
+        some h false e = omega (arith, lowered.less h e, fair.flags a ran.on)
+        some h true e = omega (arith, lowered.anew h e)
 
     module _ {marks₁ : List ℕ} (turned : Turned (count_in net) marks a t marks₁) where
-      pub turn_still : rose ≡ 0 → TurnIs net busies replies marks a false replies' marks₁ × Fair net replies' marks₁
-      turn_still z = subst (λ r. TurnIs net busies replies marks a false r marks₁ × Fair net r marks₁) (sym (still-same replies best at m replies' rose raised z)) (
+      pub turn_still : rose ≡ false → TurnIs net busies replies marks a (Ok tt) replies' marks₁ × Fair net replies' marks₁
+      turn_still z = subst (λ r. TurnIs net busies replies marks a (Ok tt) r marks₁ × Fair net r marks₁) (sym (still-same replies best at m replies' rose raised z)) (
         record {
-          falls = λ e q. fewer_marks _ (count_in net * fresh_mark) _ _ (turned_left turned ran.on (fewer q));
+          falls = λ q. fewer_marks _ (count_in net * fresh_mark) _ _ (turned_left turned ran.on (fewer q));
           keeps = λ val ready busy good.
               good_still N val ready w replies marks good a marks₁ (λ b h q. elim (turned_clear turned b (there b h) q) [
                 | inl c ↦ inl (
@@ -264,9 +269,9 @@ module _ {net busies replies marks : List ℕ} {a : ℕ} {sheet : List ℕ} {m f
             behind b k (inl h) e = absurd (omega (arith, ran.on))
             behind b k (inr h) e = omega (arith, ran.long, ap (length_in net) e)
 
-        pub turn_raised : (rose ≡ 0 → ⊥) → TurnIs net busies replies marks a false replies' marks'
+        pub turn_raised : rose ≡ true → TurnIs net busies replies marks a (Ok tt) replies' marks'
         turn_raised z = record {
-          falls = λ e q.
+          falls = λ q.
               fewer_below _ _ (count_in net * fresh_mark) _ _ below (sum_to-bound (count_in net) (values marks') fresh_mark flags);
           keeps = λ val ready busy good.
               good_raised N val ready w replies marks good a (here a ran.on) replies'

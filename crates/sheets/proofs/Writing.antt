@@ -12,14 +12,14 @@ use Rattle.least.specs.Count.{pick}
 use Rattle.least.specs.Lists.{First}
 use Rattle.least.proofs.Count.{le_or-lt, pick_below, pick_above}
 use Rattle.rules.specs.Net.{Hop, Flow, Net}
-use Rattle.rules.specs.Formula.{Role, Own, Higher, Equal, Lower, both, role, lower}
+use Rattle.rules.specs.Formula.{Own, Higher, Equal, Lower, both, role, lower}
 use Rattle.rules.specs.Valid.{Valid}
 use Rattle.nets.specs.Nets.{count_in, room_in, length_in, field_in, hop_in, path_in, flow_in, net_in, flow_at, node_at}
 use Rattle.nets.proofs.Reading.{path_length, path_at, flows_length, flow_at_lem}
-use Rattle.crossings.specs.Pairs.{place_on, side_number}
+use Rattle.crossings.specs.Pairs.{place_on}
 use Rattle.terms.specs.Terms.{base_of}
 use Rattle.blocks.specs.Sheet.{Shaped}
-use Rattle.frames.specs.Frames.{Entry, Listed, Grown, Roomy}
+use Rattle.frames.specs.Frames.{Entry, Listed, Grown}
 use Rattle.entries.specs.Fields.{up_to, entry_of, counted, entries_to}
 use Rattle.sheets.specs.Sheets.{SheetIs, from_on, Joined, Filled}
 use Rattle.entries.specs.Rows.{higher_at, equal_at, own_at}
@@ -57,31 +57,6 @@ heads_filled net r a one H end = record {
   };
 }
 
--- what a number says that b is to a
-pub own_side : (ρ : Role) → side_number ρ ≡ 0 → ρ ≡ Own
-own_side Own e = refl
-own_side Higher e = absurd (omega arith)
-own_side Equal e = absurd (omega arith)
-own_side Lower e = absurd (omega arith)
-
-pub higher_side : (ρ : Role) → side_number ρ ≡ 1 → ρ ≡ Higher
-higher_side Own e = absurd (omega arith)
-higher_side Higher e = refl
-higher_side Equal e = absurd (omega arith)
-higher_side Lower e = absurd (omega arith)
-
-pub equal_side : (ρ : Role) → side_number ρ ≡ 2 → ρ ≡ Equal
-equal_side Own e = absurd (omega arith)
-equal_side Higher e = absurd (omega arith)
-equal_side Equal e = refl
-equal_side Lower e = absurd (omega arith)
-
-pub lower_side : (ρ : Role) → (side_number ρ ≡ 0 → ⊥) → (side_number ρ ≡ 1 → ⊥) → (side_number ρ ≡ 2 → ⊥) → ρ ≡ Lower
-lower_side Own x y z = absurd (x refl)
-lower_side Higher x y z = absurd (y refl)
-lower_side Equal x y z = absurd (z refl)
-lower_side Lower x y z = refl
-
 -- the sheet of flow a with the entries of flow b too
 module _ {net : List ℕ} {r : ℕ → ℕ} {a b : ℕ} {e : List ℕ} (one : a < count_in net) (other : b < count_in net) (F : Filled net r a b e) where
   abbrev N : Net
@@ -90,9 +65,6 @@ module _ {net : List ℕ} {r : ℕ → ℕ} {a b : ℕ} {e : List ℕ} (one : a 
   -- what the rules add to a block, with the prefix P and at node h
   abbrev new_of : List Hop → ℕ → List Entry
   new_of P h = pick (counted N (room_in net) r a P h b) (entry_of N (room_in net) r a P h b (role (flow_at N a) (flow_at N b)) ∷ []) []
-
-  pub filled_roomy : Roomy (count_in net) (length_in net a) e
-  filled_roomy = record { frame = F.frame; room = λ p h. omega (arith, F.few p h) }
 
   filled_more : {e' : List ℕ} (x : ℕ → List Entry) → Grown (Valid N) (count_in net) (length_in net a) x e e' →
       (Valid N → (p : ℕ) → p < length_in net a → x p ≡ new_of (take (p + 1) (path_in net a)) (hop_in net a p).node) → Filled net r a (b + 1) e'

@@ -31,8 +31,9 @@ pub record Joined (net : List ℕ) (a b : ℕ) (x : ℕ → ℕ → Entry) (e e'
   pub grown : Grown (Valid (net_in net)) (count_in net) (length_in net a) (from_on place (x place)) e e'
 
 -- two flows of the set, what is noted, and response bounds
-pub record Given (net pairs ways replies : List ℕ) (a b : ℕ) : Type 0 where
-  pub noted : Noted net pairs a b
+pub record Given (net ways replies : List ℕ) (a b : ℕ) : Type 0 where
+  pub one : a < count_in net
+  pub other : b < count_in net
   pub known : WaysAre net ways
   pub bounds : Low replies
   pub long : count_in net * room_in net ≤ length replies

@@ -1,2 +1,3 @@
 -- The definitions of `show`.
 pub mod Texts
+pub mod Frames

@@ -1,19 +1,23 @@
 // What the programs print of plans, tables, reports, bytes and refusals, and how they read.
 #![tactic(auto)]
 
-ghost use Rattle.std.specs.Prelude.{◌≡◌, ◌<◌, ◌≤◌, length, take, IfOk, OnOk};
-ghost use Rattle.std.specs.Fmt.{decimal};
+ghost use Rattle.std.specs.Prelude.{◌≡◌, ◌<◌, ◌≤◌, length, take, IfSome, IfNone, IfOk, OnOk};
 ghost use Rattle.std.specs.Io.KnownBytes.{Appends, Consumes, IsAtEnd};
-ghost use Rattle.show.specs.Texts.{flow_text, report_text, table_text, refusal_text, done_text, asked_text, length_text, digit_of, byte_text, hex_text, written_text, set_text, table_report_text, into_text, lent_text, outcome_text, read_text, shown_text, plan_text};
+ghost use Rattle.show.specs.Frames.{FrameRead};
+ghost use Rattle.show.specs.Texts.{report_text, table_text, refusal_text, done_text, asked_text, length_text, digit_of, byte_text, hex_text, written_text, set_text, table_report_text, into_text, lent_text, read_text, shown_text, plan_text};
 
-use flows::{Answer, Asked, Figures, Outcome, Refusal, Table, Written};
+use flows::{Answer, Figures, Refusal, Table};
 use lines::Report;
 use plan::{FlowSet, Reading};
+use records::Line;
 use std::io;
 use std::io::{Read, Write};
 
 // A lent buffer has at most LENT bytes.
 pub const LENT: usize = 900;
+
+// A length in two bytes is less than FRAME.
+pub const FRAME: usize = 65536;
 
 const UNTOUCHED: u8 = 0xa5;
 
@@ -34,23 +38,30 @@ pub fn read_full<R: Read>(input: &mut R, memory: &mut [u8]) -> io::Result<usize>
     Ok(done)
 }
 
+// Reads a length in two bytes, the high one first, and then as many bytes to the buffer's start, which it lends; none if the input ends before.
+pub fn read_frame<'a, R: Read>(
+    input: &mut R,
+    buffer: &'a mut [u8; FRAME],
+) -> io::Result<Option<&'a [u8]>>
+    ensures read { IfOk result (λ frame. IfSome frame (λ f. FrameRead (R.remaining input.old) (R.remaining input.new) f.now)) }
+    ensures end { IfOk result (λ frame. IfNone frame (IsAtEnd (R.remaining input.new))) }
+{
+    let mut head = [0u8; 2];
+    if read_full(input, &mut head)? < 2 {
+        return Ok(None);
+    }
+    let n = usize::from(u16::from_be_bytes(head));
+    let frame = &mut buffer[..n];
+    if read_full(input, frame)? < n {
+        return Ok(None);
+    }
+    Ok(Some(frame))
+}
+
 pub fn put<W: Write>(out: &mut W, text: &[u8]) -> io::Result<()>
     ensures { OnOk result (Appends (W.contents out.old) (W.contents out.new) text.now) }
 {
     out.write_all(text)
-}
-
-fn put_number<W: Write>(out: &mut W, n: u64) -> io::Result<()>
-    ensures { OnOk result (Appends (W.contents out.old) (W.contents out.new) (decimal n)) }
-{
-    write!(out, "{n}")
-}
-
-// A flow's number and its figures.
-fn print_flow<W: Write>(out: &mut W, number: u8, g: Figures) -> io::Result<()>
-    ensures { OnOk result (Appends (W.contents out.old) (W.contents out.new) (flow_text number g)) }
-{
-    writeln!(out, "{number} {} {} {}", g.bound, g.jitter, g.busy)
 }
 
 // The header, and the lines of a report. RULES, programs.
@@ -59,7 +70,7 @@ fn print_lines<W: Write>(out: &mut W, report: Report) -> io::Result<()>
 {
     put(out, b"flow bound jitter busy\n")?;
     for line in &report.lines[..lines::size(report)] {
-        print_flow(out, line.number, line.figures)?;
+        writeln!(out, "{line}")?;
     }
     Ok(())
 }
@@ -68,43 +79,43 @@ fn print_lines<W: Write>(out: &mut W, report: Report) -> io::Result<()>
 pub fn print_table<W: Write>(out: &mut W, t: Table) -> io::Result<()>
     ensures { OnOk result (Appends (W.contents out.old) (W.contents out.new) (table_text t)) }
 {
-    let report = reports::report_of(t);
-    print_lines(out, report)
+    print_lines(out, reports::report_of(t))
 }
 
 pub fn print_refusal<W: Write>(out: &mut W, r: Refusal) -> io::Result<()>
     ensures { OnOk result (Appends (W.contents out.old) (W.contents out.new) (refusal_text r)) }
 {
-    writeln!(out, "refused {} flow {} at {}", r.number, r.flow, r.place)
+    writeln!(out, "{r}")
 }
 
 // What a call on a table did, or its refusal.
 pub fn print_done<W: Write>(out: &mut W, answer: Answer, done: &[u8]) -> io::Result<()>
     ensures { OnOk result (Appends (W.contents out.old) (W.contents out.new) (done_text answer done.now)) }
 {
-    let cause = answer.cause;
-    if flows::accepted(cause) {
-        put(out, done)
-    } else {
-        print_refusal(out, flows::refuse(cause, answer.place))
+    match answer.outcome {
+        Ok(()) => put(out, done),
+        Err(refusal) => print_refusal(out, refusal),
     }
 }
 
 // The figures of the flow that was asked for, or the refusal.
-pub fn print_asked<W: Write>(out: &mut W, number: u8, asked: Asked) -> io::Result<()>
+pub fn print_asked<W: Write>(
+    out: &mut W,
+    number: u8,
+    asked: Result<Figures, Refusal>,
+) -> io::Result<()>
     ensures { OnOk result (Appends (W.contents out.old) (W.contents out.new) (asked_text number asked)) }
 {
     match asked {
-        Asked::Given(g) => print_flow(out, number, g),
-        Asked::Refused(r) => print_refusal(out, r),
+        Ok(figures) => writeln!(out, "{}", Line { number, figures }),
+        Err(r) => print_refusal(out, r),
     }
 }
 
 pub fn print_length<W: Write>(out: &mut W, n: usize) -> io::Result<()>
     ensures { OnOk result (Appends (W.contents out.old) (W.contents out.new) (length_text n)) }
 {
-    put_number(out, n as u64)?;
-    put(out, b"\n")
+    writeln!(out, "{n}")
 }
 
 // A figure from 0 to f.
@@ -136,12 +147,16 @@ pub fn print_bytes<W: Write>(out: &mut W, bytes: &[u8], n: usize) -> io::Result<
 }
 
 // The bytes that were written to the start of these, or the refusal.
-fn print_written<W: Write>(out: &mut W, written: Written, bytes: &[u8]) -> io::Result<()>
+fn print_written<W: Write>(
+    out: &mut W,
+    written: Result<usize, Refusal>,
+    bytes: &[u8],
+) -> io::Result<()>
     ensures { OnOk result (Appends (W.contents out.old) (W.contents out.new) (written_text written bytes.now)) }
 {
     match written {
-        Written::Length(n) => print_bytes(out, bytes, n),
-        Written::Refused(r) => print_refusal(out, r),
+        Ok(n) => print_bytes(out, bytes, n),
+        Err(r) => print_refusal(out, r),
     }
 }
 
@@ -167,10 +182,9 @@ pub fn print_table_report<W: Write>(out: &mut W, t: Table) -> io::Result<()>
 fn print_into<W: Write>(out: &mut W, bytes: &mut [u8], t: Table) -> io::Result<()>
     ensures { OnOk result (Appends (W.contents out.old) (W.contents out.new) (into_text t bytes.old)) }
 {
-    let written = plans::write_plan(bytes, t);
-    match written {
-        Written::Length(n) => print_length(out, n)?,
-        Written::Refused(r) => print_refusal(out, r)?,
+    match plans::write_plan(bytes, t) {
+        Ok(n) => print_length(out, n)?,
+        Err(r) => print_refusal(out, r)?,
     }
     print_bytes(out, bytes, bytes.len())
 }
@@ -180,33 +194,18 @@ pub fn print_lent<W: Write>(out: &mut W, t: Table, n: usize) -> io::Result<()>
     ensures { OnOk result (Appends (W.contents out.old) (W.contents out.new) (lent_text t n)) }
 {
     let mut buffer = [UNTOUCHED; LENT];
-    if LENT < n {
-        return print_into(out, &mut buffer, t);
-    }
-    print_into(out, &mut buffer[..n], t)
-}
-
-fn print_outcome<W: Write>(out: &mut W, outcome: Outcome) -> io::Result<()>
-    ensures { OnOk result (Appends (W.contents out.old) (W.contents out.new) (outcome_text outcome)) }
-{
-    print_refusal(
-        out,
-        flows::refuse(flows::cause_in(outcome), flows::place_in(outcome)),
-    )
+    print_into(out, &mut buffer[..n.min(LENT)], t)
 }
 
 // How many flows were read, or the refusal.
 pub fn print_reading<W: Write>(out: &mut W, reading: Reading) -> io::Result<()>
     ensures { OnOk result (Appends (W.contents out.old) (W.contents out.new) (read_text reading)) }
 {
-    let outcome = reading.outcome;
-    let Outcome::Read = outcome else {
-        return print_outcome(out, outcome);
+    let Err(r) = reading.outcome else {
+        put(out, b"read ")?;
+        return print_length(out, row::size(reading.set.row));
     };
-    let set = reading.set;
-    let row = set.row;
-    put(out, b"read ")?;
-    print_length(out, row::size(row))
+    print_refusal(out, r)
 }
 
 // The lines of a report that is read, or the refusal.
@@ -214,12 +213,10 @@ pub fn print_report<W: Write>(out: &mut W, bytes: &[u8]) -> io::Result<()>
     ensures { OnOk result (Appends (W.contents out.old) (W.contents out.new) (shown_text bytes.now)) }
 {
     let reading = lines::read(bytes);
-    let outcome = reading.outcome;
-    let Outcome::Read = outcome else {
-        return print_outcome(out, outcome);
+    let Err(r) = reading.outcome else {
+        return print_lines(out, reading.report);
     };
-    let report = reading.report;
-    print_lines(out, report)
+    print_refusal(out, r)
 }
 
 // The table of an accepted plan, or the refusal.
@@ -227,10 +224,8 @@ pub fn print_plan<W: Write>(out: &mut W, plan: &[u8]) -> io::Result<()>
     ensures { OnOk result (Appends (W.contents out.old) (W.contents out.new) (plan_text plan.now)) }
 {
     let answer = plans::read_plan(plan);
-    let cause = answer.cause;
-    if !flows::accepted(cause) {
-        return print_refusal(out, flows::refuse(cause, answer.place));
+    match answer.outcome {
+        Ok(()) => print_table(out, answer.table),
+        Err(r) => print_refusal(out, r),
     }
-    let table = answer.table;
-    print_table(out, table)
 }

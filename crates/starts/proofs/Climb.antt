@@ -13,15 +13,13 @@ use Rattle.least.specs.Lists.{values}
 use Rattle.least.specs.Fixed.{Under}
 use Rattle.least.proofs.Fixed.{under_step, under_done}
 use Rattle.least.proofs.Stores.{set_cases}
-use Rattle.blocks.specs.Sheet.{here_slot, instant_slot, node_slot, added, sheet_sum, seen, sums, Small, Fit}
+use Rattle.blocks.specs.Sheet.{here_slot, instant_slot, node_slot, added, sheet_sum, seen, sums, Fit}
 use Rattle.starts.specs.Runs.{most_time}
 use Rattle.starts.specs.Begins.{BeginIs, Kept}
-use Rattle.starts.specs.declared.Begin.TheVariants.{At, Past}
+use Rattle.std.specs.declared.result.Result.TheVariants.{Ok, Err}
+use Rattle.starts.specs.declared.PastHorizon.{PastHorizon}
 use Rattle.starts.proofs.Sums.{sheet_ext, sums_rising}
 use Rattle.starts.proofs.Nodes.{nodes}
-
-pub kept-none : {s : List ℕ} → Small s → Kept s s
-kept-none small = record { others = λ k h. refl; small = small; long = refl }
 
 module _ (s₀ s : List ℕ) (kept : Kept s₀ s) (room : 0 < length s₀) (w : ℕ) where
   pub kept_set : w < 16777216 → Kept s₀ (set s here_slot w)
@@ -63,9 +61,9 @@ module _ (e : List ℕ) (p u : ℕ) (s₀ s : List ℕ) (time : values s₀ inst
   climbs_more fit under =
       subst (Under (sums e u p (nodes s₀))) (sym is) (under_step (sums_rising e (p + 1) fit u p (omega arith) (nodes s₀)) (climbs under))
 
-  pub climbs_at : r ≤ w → Under (sums e u p (nodes s₀)) from → BeginIs e u p (nodes s₀) (At w)
+  pub climbs_at : r ≤ w → Under (sums e u p (nodes s₀)) from → BeginIs e u p (nodes s₀) (Ok w)
   climbs_at h under = under_done (climbs under) (omega (arith, is))
 
-pub climbs_past : (e : List ℕ) (p u : ℕ) (s₀ : List ℕ) (from w : ℕ) → Climbs e p u s₀ from w → most_time + u < w + added e p →
-    Under (sums e u p (nodes s₀)) from → BeginIs e u p (nodes s₀) Past
-climbs_past e p u s₀ from w climbs h under v q = omega (arith, (climbs under).low v q)
+pub climbs_past : (e : List ℕ) (p u : ℕ) (s₀ : List ℕ) (from w : ℕ) (past : PastHorizon) → Climbs e p u s₀ from w → most_time + u < w + added e p →
+    Under (sums e u p (nodes s₀)) from → BeginIs e u p (nodes s₀) (Err past)
+climbs_past e p u s₀ from w past climbs h under v q = omega (arith, (climbs under).low v q)

@@ -13,7 +13,7 @@ use Rattle.steps.specs.Kept.{kept_size, KeptAt}
 use Rattle.steps.proofs.Kept.{kept_later}
 use Rattle.starts.specs.Steps.{SheetStep}
 use Rattle.starts.specs.Kept.{Strided, KeptTo}
-use Rattle.starts.proofs.Steps.{nodes_none, nodes_more, nodes_all, node_late}
+use Rattle.starts.proofs.Steps.{nodes_none, nodes_more, node_late}
 
 pub strided_same : {e : List ℕ} {stride m : ℕ} {steps steps' : List ℕ} → length steps' ≡ length steps → Strided e stride m steps → Strided e stride m steps'
 strided_same h s = record { each = s.each; long = rw h s.long; short = rw h s.short }
@@ -23,9 +23,8 @@ strided-apart : {e : List ℕ} {stride m : ℕ} {steps : List ℕ} → Strided e
 strided-apart {stride} s p i h l = omega (arith, s.each p (omega arith), mul-le-mul_right {m = p + 1} {n = i} stride (omega arith))
 
 pub strided-room : {e : List ℕ} {stride m at p : ℕ} {steps : List ℕ} → Strided e stride m steps → at ≡ p * stride → p < m →
-    (at + kept_size + entries_in e p ≤ length steps) × (at + stride ≤ length steps)
-strided-room {stride} {m} {p} s is on =
-    (omega (arith, strided-apart s p m on (omega arith), s.long), omega (arith, mul-le-mul_right {m = p + 1} {n = m} stride (omega arith), s.long))
+    at + kept_size + entries_in e p ≤ length steps
+strided-room {m = m} {p = p} s is on = omega (arith, strided-apart s p m on (omega arith), s.long)
 
 -- only its own places count
 kept_same : {e : List ℕ} {end u p at : ℕ} {steps steps' : List ℕ} → ((k : ℕ) → at ≤ k → k < at + kept_size + entries_in e p → values steps' k ≡ values steps k) →
@@ -72,9 +71,6 @@ module _ (e : List ℕ) (stride m end u : ℕ) where
           (j : ℕ) → p + 1 ≤ j → j < m → KeptAt e end u₀ steps' j (j * stride)
       noded_left u₀ left j h l =
           kept_same (λ k a b. i.behind k (omega (arith, noded.place, strided-apart noded.room p j (omega arith) (omega arith)))) (left j (omega arith) l)
-
-    pub noded_all : m ≤ p → p ≤ m → KeptTo e stride end u steps m × SheetStep e m u end next
-    noded_all h l = (λ j on. noded.kept j (omega arith), nodes_all e u end p m next noded.step h l)
 
 -- up to the tick before the next step nothing changes
 pub kept_on : (e : List ℕ) (stride end u m r : ℕ) (steps : List ℕ) → KeptTo e stride end u steps m → SheetStep e m u end r → KeptTo e stride end (r - 1) steps m

@@ -1,6 +1,6 @@
 -- One instant, node by node: a law for the start, a turn and each way out. Assumes nothing.
 use mathlib.Core.Path.{◌≡◌, refl, sym, ◌∙◌, subst}
-use mathlib.Core.Bool.{Bool, true, false}
+use mathlib.Core.Bool.{Bool, true, false, false≢true}
 use mathlib.Core.List.{List}
 use Prim.Native.Nat.{ℕ, ◌+◌, ◌-◌, ◌≤◌, ◌<◌}
 use native.Mathlib.Omega.{arith}
@@ -14,10 +14,18 @@ use Rattle.least.proofs.Stores.{set_cases, inside-none}
 use Rattle.least.specs.Fixed.{Under}
 use Rattle.blocks.specs.Sheet.{most_instant, instant_slot, node_slot, added, sums, Small, Fit}
 use Rattle.starts.specs.Begins.{BeginIs, BeginFits, Kept}
-use Rattle.starts.specs.Runs.{most_time, StartsOf, Behind, LowTo, RaisedAt, AtNode, PastAt}
-use Rattle.starts.specs.declared.Begin.{Begin}
-use Rattle.starts.specs.declared.Begin.TheVariants.{At, Past}
+use Rattle.starts.specs.Runs.{most_time, StartsOf, Behind, LowTo, RaisedAt, AtNode, PastAt, Found}
+use Rattle.std.specs.Prelude.{IsErr}
+use Rattle.std.specs.declared.result.Result.{Result}
+use Rattle.std.specs.declared.result.Result.TheVariants.{Ok, Err}
+use Rattle.starts.specs.declared.PastHorizon.{PastHorizon}
 use Rattle.starts.proofs.Sums.{sums_same, start_found, from_under}
+
+-- past at a node, whatever was found
+found_past : (e : List ℕ) (m : ℕ) (W : ℕ → ℕ → ℕ) (u : ℕ) (best₀ slots best : List ℕ) (r : Result (Unit {0}) PastHorizon) → IsErr r → PastAt e m W u →
+    Found e m W u best₀ r slots best
+found_past e m W u best₀ slots best (Ok done) h p = absurd (false≢true h)
+found_past e m W u best₀ slots best (Err past) h p = p
 
 -- the starting times in the slots
 abbrev pub nodes : List ℕ → ℕ → ℕ
@@ -101,13 +109,14 @@ module _ (e : List ℕ) (m u : ℕ) where
       found-sum = omega (arith, sums_same e m fit u p on (nodes slots) (W u) earlier (W u p), (starts u p on).fixed)
 
     -- what start_at gives at p
-    module _ (r : Begin) (begin : Under (sums e u p (nodes slots)) (nodes slots p) → BeginIs e u p (nodes slots) r) where
-      pub going_past : r ≡ Past → (W : ℕ → ℕ → ℕ) → StartsOf e m W → Behind e m W u slots₀ → PastAt e m W u
-      going_past is W starts first =
-          let past = subst (BeginIs e u p (nodes slots)) is (begin (under W starts first)) in
-          record { node = p; on = on; past = past (W u p) (found-sum W starts first) }
+    module _ (r : Result ℕ PastHorizon) (begin : Under (sums e u p (nodes slots)) (nodes slots p) → BeginIs e u p (nodes slots) r) where
+      pub going_past : (past : PastHorizon) → r ≡ Err past → (out : Result (Unit {0}) PastHorizon) → IsErr out → (slots' best' : List ℕ) →
+          (W : ℕ → ℕ → ℕ) → StartsOf e m W → Behind e m W u slots₀ → Found e m W u best₀ out slots' best'
+      going_past past is out err slots' best' W starts first =
+          let passes = subst (BeginIs e u p (nodes slots)) is (begin (under W starts first)) in
+          found_past e m W u best₀ slots' best' out err (record { node = p; on = on; past = passes (W u p) (found-sum W starts first) })
 
-      module _ (fits : BeginFits e u p r) (w : ℕ) (at : r ≡ At w) where
+      module _ (fits : BeginFits e u p r) (w : ℕ) (at : r ≡ Ok w) where
         pub begin_small : w + added e p ≤ most_time + u
         begin_small = subst (BeginFits e u p) at fits
 

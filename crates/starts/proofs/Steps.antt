@@ -1,5 +1,5 @@
 -- The next step of a sheet, node by node; and between two steps no sum changes, so no starting time does, and W + C − u falls. Assumes nothing.
-use mathlib.Core.Path.{◌≡◌, refl, subst}
+use mathlib.Core.Path.{◌≡◌, refl}
 use mathlib.Core.Bool.{Bool, true, false}
 use mathlib.Core.Logic.{inl, inr}
 use mathlib.Core.List.{List}
@@ -30,9 +30,6 @@ module _ (e : List ℕ) (u end : ℕ) where
 
   pub nodes_more : (p r s : ℕ) → SheetStep e p u end r → NodeStep e p u end s → SheetStep e (p + 1) u end (min r s)
   nodes_more p r s a b = step_more (λ v i. instant_sum e i v) u end p r s (λ v h. sum_rises e u v h p) a b
-
-  pub nodes_all : (p m r : ℕ) → SheetStep e p u end r → m ≤ p → p ≤ m → SheetStep e m u end r
-  nodes_all p m r a l h = let q : p ≡ m = omega arith in subst (λ i. SheetStep e i u end r) q a
 
 module _ (e : List ℕ) (m u end r : ℕ) (s : SheetStep e m u end r) (p : ℕ) (on : p < m) where
   up-together : (v : ℕ) → u ≤ v → instant_sum e p u < instant_sum e p v → sum_to m (λ p. instant_sum e p u) < sum_to m (λ p. instant_sum e p v)

@@ -65,12 +65,6 @@ module _ (e : List ℕ) (end u p at : ℕ) where
         here : EntryStep e (entry_at e p q) u end s
         here = subst (λ k. EntryStep e k u end s) place step
 
-    -- the next entry is as it was
-    pub entered_next : (u₀ k : ℕ) → k ≡ entry_at e p q → KeptAt e end u₀ steps₀ p at → q < entries_in e p → EntryStep e k u₀ end (values steps (at + kept_size + q))
-    entered_next u₀ k place kept on =
-        subst (λ k. EntryStep e k u₀ end (values steps (at + kept_size + q))) (sym place)
-        (subst (EntryStep e (entry_at e p q) u₀ end) (sym (entered.inside.behind (at + kept_size + q) (omega arith))) (kept.each q on))
-
     -- the sum and the first step written, they look as they did
     pub entered_looks : (sum : ℕ) → Looking e p (values steps₀ (at + 2)) → Looking e p (values (headed steps at sum next) (at + 2))
     entered_looks sum =

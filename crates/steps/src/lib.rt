@@ -21,12 +21,12 @@ fn step_after(a: u64, b: u64, t: u64, u: u64, end: u64) -> u64
     ensures { Step (λ v. count (v + a) b t) u end result }
 {
     if u + a < b {
-        return least::lesser(b - a, end);
+        return (b - a).min(end);
     }
     if t == 0 {
         return end;
     }
-    least::lesser(u + (t - (u + a - b) % t), end)
+    (u + (t - (u + a - b) % t)).min(end)
 }
 
 // The same of the count of the entry at k.
@@ -79,15 +79,13 @@ fn begin_node(e: &[u64], steps: &mut [u64], p: usize, at: usize, u: u64, end: u6
     let mut sum = e[block];
     let mut next = end;
     let mut looks: u64 = 0;
-    let mut q: usize = 0;
-    while q < n {
+    for q in 0..n {
         let k = block + HEAD + q * ENTRY;
         let step = entry_step(e, k, u, end);
         steps[at + KEPT + q] = step;
         looks = looking(e, k, looks);
         sum += blocks::instant_term(e, k, u);
-        next = least::lesser(next, step);
-        q += 1;
+        next = next.min(step);
     }
     steps[at] = sum;
     steps[at + 1] = next;
@@ -133,8 +131,7 @@ fn advance_node(e: &[u64], steps: &mut [u64], p: usize, at: usize, u: u64, end: 
     let n = e[block + 2] as usize;
     let mut sum = steps[at];
     let mut next = end;
-    let mut q: usize = 0;
-    while q < n {
+    for q in 0..n {
         sum = advance_entry(
             e,
             steps,
@@ -144,8 +141,7 @@ fn advance_node(e: &[u64], steps: &mut [u64], p: usize, at: usize, u: u64, end: 
             end,
             sum,
         );
-        next = least::lesser(next, steps[at + KEPT + q]);
-        q += 1;
+        next = next.min(steps[at + KEPT + q]);
     }
     steps[at] = sum;
     steps[at + 1] = next;
@@ -201,10 +197,8 @@ pub fn count_steps(e: &[u64], m: usize, x: u64) -> u64
     let block = blocks::block_at(e, m - 1);
     let n = e[block + 2] as usize;
     let mut sum: u64 = 0;
-    let mut q: usize = 0;
-    while q < n {
+    for q in 0..n {
         sum += packets(e, block + HEAD + q * ENTRY, x);
-        q += 1;
     }
     sum
 }

@@ -6,6 +6,7 @@ use mathlib.Core.List.{List, [], ◌∷◌, ◌++◌, map, Memᴰ}
 use native.Mathlib.Omega.{arith}
 use lib.ListN.{length, get_or}
 use borrow.Author.Tests.{eq-eqb, ne_eqb, lt-ltb}
+use Rattle.std.specs.Prelude.{Some, Ok}
 use Rattle.rules.specs.Net as net
 use Rattle.rules.specs.Valid.{RisingNumbers, Valid}
 use Rattle.rules.specs.Judge.{judged}
@@ -13,13 +14,11 @@ use Rattle.rules.proofs.Judge.{judged_is}
 use Rattle.flows.specs.declared.Flow.{Flow}
 use Rattle.flows.specs.declared.Figures.{Figures}
 use Rattle.flows.specs.declared.Table.{Table}
-use Rattle.flows.specs.declared.Asked.TheVariants.{Given}
 use Rattle.flows.specs.Lists.{no_flow, held, flow_of, table_net}
-use Rattle.row.specs.declared.Found.TheVariants.{At}
 use Rattle.row.specs.Rows.{first_of, place_of, found_in}
 use Rattle.row.proofs.Valid.{readable_valid}
-use Rattle.engine.specs.Verdicts.{no_figures, as_figures, given}
-use Rattle.table.specs.Calls.{asked_by, asked_for}
+use Rattle.engine.specs.Verdicts.{no_figures, as_figures, listed}
+use Rattle.table.specs.Calls.{Asked, asked_by, asked_for}
 use Rattle.table.specs.Made.{Made}
 use Rattle.table.specs.Demands.{Present, Figured}
 use Rattle.table.proofs.Nets.{Accepting, accepting}
@@ -50,21 +49,21 @@ module _ (t : Table) (r : Right t) where
   pub right_accepting : Accepting (table_net t) r.givens
   right_accepting = accepting (table_net t) (judged (table_net t)) r.givens r.accepted (judged_is (table_net t) right_valid)
 
-  pub found_present : (f : Flow) → Present t f → found_in (held t.row) f.number ≡ At (place_of f.number (held t.row))
+  pub found_present : (f : Flow) → Present t f → found_in (held t.row) f.number ≡ Some (place_of f.number (held t.row))
   unfolding found_in
   found_present f m = rw (lt-ltb _ _ (place_of_lem f (held t.row) right_valid.rising m).0)
 
   -- what is stored at a flow's place
-  pub asked_figures : (f : Flow) → Present t f → asked_for t f.number ≡ Given (as_figures (right_accepting.figure (flow_of f)))
-  unfolding asked_for asked_by given
+  pub asked_figures : (f : Flow) → Present t f → asked_for t f.number ≡ Ok (as_figures (right_accepting.figure (flow_of f)))
+  unfolding asked_for asked_by listed
   asked_figures f m =
       let p = place_of_lem f (held t.row) right_valid.rising m in
       let k : ℕ = place_of f.number (held t.row) in
       let e : get_or t.figures k no_figures ≡ as_figures (right_accepting.figure (flow_of (get_or (held t.row) k no_flow))) =
       ap (λ (l : List Figures). get_or l k no_figures) r.figures ∙
-      ap (λ (gs : List net.Figures). get_or (given gs).figures k no_figures) right_accepting.all ∙
+      ap (λ (gs : List net.Figures). get_or (listed gs) k no_figures) right_accepting.all ∙
       shown_at_lem right_accepting.figure (held t.row) _ k p.0 in
-      ap (asked_by t) (found_present f m) ∙ ap Given (e ∙ ap (λ (g : Flow). as_figures (right_accepting.figure (flow_of g))) p.1)
+      ap (asked_by t) (found_present f m) ∙ ap (λ g. let a : Asked = Ok g in a) (e ∙ ap (λ (g : Flow). as_figures (right_accepting.figure (flow_of g))) p.1)
 
   pub right_figured : Figured t
   right_figured =

@@ -8,26 +8,24 @@ use native.Mathlib.Omega.{arith}
 use lib.ListN.{length}
 use lib.Dec.{ltb, eqb}
 use borrow.Author.Tests.{lt-leb}
+use Rattle.std.specs.Prelude.{Option, Some, None}
 use Rattle.least.proofs.Fold.{sublist-map}
 use Rattle.rules.specs.Net as net
 use Rattle.rules.specs.Judge.{judged}
 use Rattle.flows.specs.declared.Flow.{Flow}
 use Rattle.flows.specs.declared.Table.{Table}
-use Rattle.flows.specs.declared.Cause.TheVariants.{Accepted, Crossing, NoBusyLength, Unsettled, PastDeadline}
-use Rattle.flows.specs.Refusals.{accepted_by}
+use Rattle.flows.specs.Refusals.{accepted, accepted_by}
 use Rattle.flows.specs.Lists.{most_flows, held, row_of, flow_of, net_from, table_net}
 use Rattle.flows.specs.Tests.{delay_cause}
 use Rattle.flows.specs.WellFormed.{DelaysFit, Typed}
 use Rattle.flows.proofs.Causes.{accepted_only}
 use Rattle.flows.proofs.Passed.{delays_formed}
-use Rattle.row.specs.declared.Found.{Found}
-use Rattle.row.specs.declared.Found.TheVariants.{At, Nothing}
 use Rattle.row.specs.Sets.{Readable, Enters}
 use Rattle.row.specs.Rows.{found_in, insert_sorted, without, inserted, entry_cause}
 use Rattle.row.proofs.Arrays.{held-row_of}
 use Rattle.row.proofs.Sets.{insert_rising, without_rising, insert_each, without_each, enters}
 use Rattle.row.proofs.Valid.{readable_valid, readable_none}
-use Rattle.engine.specs.Verdicts.{cause_of, refused, given, verdict_from, verdict_of}
+use Rattle.engine.specs.Verdicts.{figures_in, listed, verdict_from, verdict_of}
 use Rattle.table.specs.Calls.{empty_table, answered, unless, fresh_answer, holding, decided, judged_row, admitted, withdrawn_by, withdrawn}
 use Rattle.table.specs.Made.{Made, by_fresh, by_admit, by_withdraw}
 use Rattle.table.proofs.Nets.{none_accepted, part_accepted}
@@ -37,10 +35,10 @@ pub record Right (t : Table) : Type 0 where
   pub row : t.row ≡ row_of (held t.row)
   pub givens : List net.Figures
   pub accepted : judged (table_net t) ≡ net.Given givens
-  pub figures : t.figures ≡ (given givens).figures
+  pub figures : t.figures ≡ listed givens
 
 right_of : (t : Table) (fs : List Flow) (gs : List net.Figures) → t.row ≡ row_of fs → Readable t.lmin t.lmax fs →
-    judged (net_from t.lmin t.lmax fs) ≡ net.Given gs → t.figures ≡ (given gs).figures → Right t
+    judged (net_from t.lmin t.lmax fs) ≡ net.Given gs → t.figures ≡ listed gs → Right t
 right_of t fs gs e k j g =
     let h : held t.row ≡ fs = ap held e ∙ held-row_of fs in
     record {
@@ -53,7 +51,7 @@ right_of t fs gs e k j g =
 
 -- ---- the empty table
 pub empty_right : (lmin lmax : ℕ) → DelaysFit lmin lmax → Right (empty_table lmin lmax)
-unfolding empty_table given
+unfolding empty_table listed
 empty_right lmin lmax h = right_of (empty_table lmin lmax) [] [] refl (readable_none lmin lmax h) (none_accepted lmin lmax) refl
 
 pub fresh-right : (lmin lmax : ℕ) → Right (fresh_answer lmin lmax).table
@@ -61,21 +59,11 @@ unfolding fresh_answer unless answered delay_cause
 fresh-right lmin lmax = go (accepted_by (delay_cause lmin lmax)) refl
   where
     go : (b : Bool) → accepted_by (delay_cause lmin lmax) ≡ b →
-        Right (cond b (answered Accepted (empty_table lmin lmax)) (answered (delay_cause lmin lmax) (empty_table 0 0))).table
+        Right (cond b (answered accepted (empty_table lmin lmax)) (answered (delay_cause lmin lmax) (empty_table 0 0))).table
     go true e = empty_right lmin lmax (delays_formed lmin lmax (accepted_only (delay_cause lmin lmax) e))
     go false e = empty_right 0 0 (omega arith, omega arith)
 
 -- ---- admission
-pub cause_refuses : (k n : ℕ) → accepted_by (cause_of k n) ≡ false
-unfolding cause_of
-cause_refuses k n = go (eqb k 7) (eqb k 8) (eqb k 9)
-  where
-    go : (p q r : Bool) → accepted_by (cond p (Crossing n) (cond q (NoBusyLength n) (cond r Unsettled (PastDeadline n)))) ≡ false
-    go true q r = refl
-    go false true r = refl
-    go false false true = refl
-    go false false false = refl
-
 length_inserted : (f : Flow) (fs : List Flow) → length (insert_sorted f fs) ≡ suc (length fs)
 unfolding insert_sorted
 length_inserted f [] = refl
@@ -105,20 +93,20 @@ module _ (t : Table) (f : Flow) (n : Enters (held t.row) f) where
       }
 
   -- the judgement of the enlarged set decides
-  pub admit_decided : entry_cause (held t.row) f ≡ Accepted →
+  pub admit_decided : entry_cause (held t.row) f ≡ accepted →
       admitted t f ≡ decided t (row_of fs') (verdict_from (judged (net_from t.lmin t.lmax fs')))
   unfolding admitted unless verdict_of
   admit_decided e = rw (e, admit_row, held-row_of fs')
 
 module _ (t : Table) (r : Right t) where
   pub admit_right : (f : Flow) → Typed f → Right (admitted t f).table
-  unfolding admitted decided unless answered verdict_from given holding refused
+  unfolding admitted decided unless answered verdict_from holding
   admit_right f u = go (accepted_by (entry_cause (held t.row) f)) refl
     where
       next : (n : Enters (held t.row) f) (v : net.Judgement) → judged (net_from t.lmin t.lmax (insert_sorted f (held t.row))) ≡ v →
           Right (decided t (row_of (insert_sorted f (held t.row))) (verdict_from v)).table
       next n (net.Given gs) j = right_of _ (insert_sorted f (held t.row)) gs refl (admit_kept t f n r.set u) j refl
-      next n (net.Refused k m) j = rw (cause_refuses k m) r
+      next n (net.Refused k m) j = r
 
       go : (b : Bool) → accepted_by (entry_cause (held t.row) f) ≡ b → Right (admitted t f).table
       go true e =
@@ -171,11 +159,11 @@ module _ (t : Table) (r : Right t) (number : ℕ) where
   unfolding withdrawn withdrawn_by answered holding verdict_of verdict_from
   withdraw_right = go (found_in (held t.row) number)
     where
-      go : (b : Found) → Right (withdrawn_by t number b).table
-      go Nothing = r
-      go (At place) = right_of _ fewer fewer_given.0 refl withdraw_kept fewer_given.1 shown
+      go : (b : Option ℕ) → Right (withdrawn_by t number b).table
+      go None = r
+      go (Some place) = right_of _ fewer fewer_given.0 refl withdraw_kept fewer_given.1 shown
         where
-          shown : (judged_row t (row_of fewer)).figures ≡ (given fewer_given.0).figures
+          shown : figures_in (judged_row t (row_of fewer)) ≡ listed fewer_given.0
           shown = rw (held-row_of fewer, fewer_given.1)
 
 pub made-right : (t : Table) → Made t → Right t

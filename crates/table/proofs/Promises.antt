@@ -3,21 +3,19 @@ use Prim.Native.Nat.{ℕ}
 use mathlib.Core.Path.{◌≡◌, refl, sym, ap, ◌∙◌, subst}
 use mathlib.Core.Bool.{Bool, true, false, cond}
 use mathlib.Core.Logic.{⊎_elim}
+use Rattle.std.specs.Prelude.{Option, Some, None}
 use Rattle.flows.specs.declared.Flow.{Flow}
 use Rattle.flows.specs.declared.Table.{Table}
 use Rattle.flows.specs.declared.Answer.{Answer}
-use Rattle.flows.specs.declared.Asked.{Asked}
-use Rattle.flows.specs.declared.Cause.TheVariants.{Accepted}
-use Rattle.flows.specs.Refusals.{accepted_by}
+use Rattle.flows.specs.Refusals.{accepted, accepted_by, cause_in, place_in}
 use Rattle.flows.specs.Lists.{held}
 use Rattle.flows.specs.Tests.{delay_cause}
 use Rattle.flows.specs.WellFormed.{Typed}
-use Rattle.flows.proofs.Causes.{accepted_only, refused-never}
+use Rattle.flows.proofs.Causes.{accepted_only, refused-never, cause_at, place_none}
 use Rattle.flows.proofs.Passed.{delays_given}
-use Rattle.row.specs.declared.Found.{Found}
-use Rattle.row.specs.declared.Found.TheVariants.{At, Nothing}
 use Rattle.row.specs.Rows.{found_in, inserted, entry_cause}
-use Rattle.table.specs.Calls.{empty_table, answered, unless, fresh_answer, holding, decided, judged_row, admitted, withdrawn_by, withdrawn, asked_for}
+use Rattle.engine.specs.Verdicts.{ruling_of, figures_in}
+use Rattle.table.specs.Calls.{Asked, empty_table, answered, unless, fresh_answer, holding, decided, judged_row, admitted, withdrawn_by, withdrawn, asked_for}
 use Rattle.table.specs.Made.{Made, by_fresh, by_admit, by_withdraw}
 use Rattle.table.specs.Demands.{Present, Stored, Sound, SameLinks, Freshly, Admitting, Gone, Withdrawing, Asking}
 use Rattle.table.proofs.Calls.{none_present, admit_has, admit_keeps, admit_only, admit_old, withdraw_refused, ask_refused}
@@ -33,29 +31,29 @@ made-sound t m = record { made = m; figured = made-figured t m; only = λ u n e.
 module _ (lmin lmax : ℕ) where
   -- the answer, by whether the link delays are accepted
   abbrev fresh_by : Bool → Answer
-  fresh_by b = cond b (answered Accepted (empty_table lmin lmax)) (answered (delay_cause lmin lmax) (empty_table 0 0))
+  fresh_by b = cond b (answered accepted (empty_table lmin lmax)) (answered (delay_cause lmin lmax) (empty_table 0 0))
 
-  fresh_cause : (b : Bool) → accepted_by (delay_cause lmin lmax) ≡ b → (fresh_by b).cause ≡ delay_cause lmin lmax
+  fresh_cause : (b : Bool) → accepted_by (delay_cause lmin lmax) ≡ b → cause_in (fresh_by b).outcome ≡ delay_cause lmin lmax
   unfolding answered
   fresh_cause true e = sym (accepted_only (delay_cause lmin lmax) e)
-  fresh_cause false e = refl
+  fresh_cause false e = cause_at _ 0
 
-  fresh-place : (b : Bool) → (fresh_by b).place ≡ 0
+  fresh-place : (b : Bool) → place_in (fresh_by b).outcome ≡ 0
   unfolding answered
   fresh-place true = refl
-  fresh-place false = refl
+  fresh-place false = place_none _
 
   fresh_empty : (b : Bool) (f : Flow) → Present (fresh_by b).table f → ⊥
   unfolding answered
   fresh_empty true f p = none_present lmin lmax f p
   fresh_empty false f p = none_present 0 0 f p
 
-  fresh-links : (b : Bool) → accepted_by (delay_cause lmin lmax) ≡ b → (fresh_by b).cause ≡ Accepted → ((fresh_by b).table.lmin ≡ lmin) × ((fresh_by b).table.lmax ≡ lmax)
+  fresh-links : (b : Bool) → accepted_by (delay_cause lmin lmax) ≡ b → cause_in (fresh_by b).outcome ≡ accepted → ((fresh_by b).table.lmin ≡ lmin) × ((fresh_by b).table.lmax ≡ lmax)
   unfolding answered empty_table
   fresh-links true e h = (refl, refl)
-  fresh-links false e h = absurd (refused-never (delay_cause lmin lmax) e h)
+  fresh-links false e h = absurd (refused-never (delay_cause lmin lmax) e (sym (cause_at _ 0) ∙ h))
 
-  fresh-none : (b : Bool) → ((fresh_by b).cause ≡ Accepted → ⊥) → ((fresh_by b).table.lmin ≡ 0) × ((fresh_by b).table.lmax ≡ 0)
+  fresh-none : (b : Bool) → (cause_in (fresh_by b).outcome ≡ accepted → ⊥) → ((fresh_by b).table.lmin ≡ 0) × ((fresh_by b).table.lmax ≡ 0)
   unfolding answered empty_table
   fresh-none true never = absurd (never refl)
   fresh-none false never = (refl, refl)
@@ -65,7 +63,7 @@ module _ (lmin lmax : ℕ) where
   freshly =
       let b = accepted_by (delay_cause lmin lmax) in
       record {
-        cause = delays_given lmin lmax (fresh_by b).cause (fresh_cause b refl);
+        cause = delays_given lmin lmax (cause_in (fresh_by b).outcome) (fresh_cause b refl);
         place = fresh-place b;
         empty = fresh_empty b;
         accepted = fresh-links b refl;
@@ -82,13 +80,13 @@ module _ (t : Table) (f : Flow) where
   abbrev admitted_by : Bool → Bool → Answer
   admitted_by b d =
       let row = inserted t.row f in
-      cond b (cond d (answered Accepted (holding t row (judged_row t row).figures)) (answered (judged_row t row).cause t)) (answered (entry_cause (held t.row) f) t)
+      cond b (cond d (answered accepted (holding t row (figures_in (judged_row t row)))) (answered (ruling_of (judged_row t row)) t)) (answered (entry_cause (held t.row) f) t)
 
-  admit-place : (b d : Bool) → (admitted_by b d).place ≡ 0
+  admit-place : (b d : Bool) → place_in (admitted_by b d).outcome ≡ 0
   unfolding answered
   admit-place true true = refl
-  admit-place true false = refl
-  admit-place false d = refl
+  admit-place true false = place_none _
+  admit-place false d = place_none _
 
   admit-links : (b d : Bool) → SameLinks (admitted_by b d).table t
   unfolding answered holding
@@ -100,7 +98,7 @@ module _ (t : Table) (f : Flow) where
   unfolding admitted decided unless answered
   admitting m u =
       let b = accepted_by (entry_cause (held t.row) f) in
-      let d = accepted_by (judged_row t (inserted t.row f)).cause in
+      let d = accepted_by (ruling_of (judged_row t (inserted t.row f))) in
       record {
         cause = admission_exact t m f u;
         place = admit-place b d;
@@ -116,15 +114,15 @@ module _ (t : Table) (f : Flow) where
 
 -- ---- withdraw
 module _ (t : Table) (number : ℕ) where
-  withdraw-place : (b : Found) → (withdrawn_by t number b).place ≡ 0
+  withdraw-place : (b : Option ℕ) → place_in (withdrawn_by t number b).outcome ≡ 0
   unfolding withdrawn_by answered
-  withdraw-place Nothing = refl
-  withdraw-place (At place) = refl
+  withdraw-place None = refl
+  withdraw-place (Some place) = refl
 
-  withdraw-links : (b : Found) → SameLinks (withdrawn_by t number b).table t
+  withdraw-links : (b : Option ℕ) → SameLinks (withdrawn_by t number b).table t
   unfolding withdrawn_by answered holding
-  withdraw-links Nothing = (refl, refl)
-  withdraw-links (At place) = (refl, refl)
+  withdraw-links None = (refl, refl)
+  withdraw-links (Some place) = (refl, refl)
 
   gone : Made t → (f : Flow) → Present t f → Gone t f (withdrawn t f.number)
   gone m f p = record {
@@ -138,7 +136,7 @@ module _ (t : Table) (number : ℕ) where
   unfolding withdrawn answered
   withdrawing m = record {
     place = withdraw-place (found_in (held t.row) number);
-    absent = λ a. let e = withdraw_refused t number a in (ap (λ (r : Answer). r.cause) e, ap (λ (r : Answer). r.table) e);
+    absent = λ a. let e = withdraw_refused t number a in (ap (λ (r : Answer). cause_in r.outcome) e, ap (λ (r : Answer). r.table) e);
     present = λ f p e. subst (λ (n : ℕ). Gone t f (withdrawn t n)) e (gone m f p);
     links = withdraw-links (found_in (held t.row) number);
     sound = made-sound (withdrawn t number).table (by_withdraw number m);

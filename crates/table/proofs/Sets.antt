@@ -15,7 +15,7 @@ use Rattle.rules.specs.Judge.{judged}
 use Rattle.flows.specs.declared.Flow.{Flow}
 use Rattle.flows.specs.declared.Table.{Table}
 use Rattle.flows.specs.declared.Answer.{Answer}
-use Rattle.flows.specs.declared.Cause.TheVariants.{Accepted}
+use Rattle.flows.specs.Refusals.{accepted}
 use Rattle.flows.specs.Lists.{held, row_of, flow_of, net_from, table_net}
 use Rattle.flows.specs.WellFormed.{Each, each_none, each_more, Typed}
 use Rattle.flows.proofs.Passed.{delays_passes, each_member}
@@ -24,7 +24,7 @@ use Rattle.row.specs.Rows.{insert_sorted, without}
 use Rattle.row.proofs.Arrays.{held-row_of}
 use Rattle.row.specs.Sets.{Enters}
 use Rattle.row.proofs.Sets.{same_flows, without_only, entered}
-use Rattle.engine.specs.Verdicts.{given, verdict_from}
+use Rattle.engine.specs.Verdicts.{figures_in, listed, verdict_from}
 use Rattle.table.specs.Calls.{empty_table, answered, unless, fresh_answer, holding, decided, judged_row, admitted, withdrawn_by, withdrawn}
 use Rattle.table.specs.Made.{Made, by_fresh, by_admit}
 use Rattle.table.specs.Demands.{Present, SameSet}
@@ -39,7 +39,7 @@ right_same t u r s a b h =
     let n : net_from t.lmin t.lmax (held t.row) ≡ net_from u.lmin u.lmax (held u.row) = rw (a, b, h) in
     let j : net.Given r.givens ≡ net.Given s.givens = sym r.accepted ∙ ap judged n ∙ s.accepted in
     let g : r.givens ≡ s.givens = cc in
-    same_parts t u a b (r.row ∙ ap row_of h ∙ sym s.row) (r.figures ∙ ap (λ (l : List net.Figures). (given l).figures) g ∙ sym s.figures)
+    same_parts t u a b (r.row ∙ ap row_of h ∙ sym s.row) (r.figures ∙ ap listed g ∙ sym s.figures)
 
 from-map : {i : net.Flow} (fs : List Flow) → Memᴰ i (map flow_of fs) → (f : Flow) × Memᴰ f fs × (flow_of f ≡ i)
 from-map [] m = absurd (mathlib.Core.List.Memᴰ.not-nil m)
@@ -104,7 +104,7 @@ module _ (t : Table) (r : Right t) (f : Flow) (m : Present t f) where
   abbrev fewer : List Flow
   fewer = without f.number (held t.row)
 
-  pub withdraw_done : withdrawn t f.number ≡ answered Accepted (holding t (row_of fewer) (judged_row t (row_of fewer)).figures)
+  pub withdraw_done : withdrawn t f.number ≡ answered accepted (holding t (row_of fewer) (figures_in (judged_row t (row_of fewer))))
   unfolding withdrawn withdrawn_by
   withdraw_done = ap (withdrawn_by t f.number) (found_present t r f m)
 
@@ -130,21 +130,21 @@ module _ (t : Table) (r : Right t) (f : Flow) (m : Present t f) where
     room = omega (arith, shorter f (held t.row) m, r.set.count);
   }
 
-  readmitted : (s : Table) → s.lmin ≡ t.lmin → s.lmax ≡ t.lmax → held s.row ≡ fewer → admitted s f ≡ answered Accepted t
-  unfolding decided unless verdict_from given answered holding
+  readmitted : (s : Table) → s.lmin ≡ t.lmin → s.lmax ≡ t.lmax → held s.row ≡ fewer → admitted s f ≡ answered accepted t
+  unfolding decided unless verdict_from answered holding
   readmitted s a b h =
       let n : Enters (held s.row) f = subst (λ l. Enters l f) (sym h) left in
       let e : insert_sorted f (held s.row) ≡ held t.row = ap (insert_sorted f) h ∙ insert-without f (held t.row) (right_valid t r).rising m in
       let j : judged (net_from s.lmin s.lmax (insert_sorted f (held s.row))) ≡ net.Given r.givens = rw (a, b, e) r.accepted in
-      let u : Table = holding s (row_of (insert_sorted f (held s.row))) (given r.givens).figures in
+      let u : Table = holding s (row_of (insert_sorted f (held s.row))) (listed r.givens) in
       admit_decided s f n (entered (held s.row) f typed n) ∙ ap (λ (v : net.Judgement). decided s (row_of (insert_sorted f (held s.row))) (verdict_from v)) j ∙
-      ap (answered Accepted) (same_parts u t a b (ap row_of e ∙ sym r.row) (sym r.figures))
+      ap (answered accepted) (same_parts u t a b (ap row_of e ∙ sym r.row) (sym r.figures))
 
-  right_again : admitted (withdrawn t f.number).table f ≡ answered Accepted t
+  right_again : admitted (withdrawn t f.number).table f ≡ answered accepted t
   right_again = readmitted (withdrawn t f.number).table withdraw_lmin withdraw_lmax withdraw_held
 
 -- A flow that was withdrawn is admitted again, and gives the table as it was. RULES, tables
-pub withdraw_admit : (t : Table) → Made t → (f : Flow) → Present t f → admitted (withdrawn t f.number).table f ≡ answered Accepted t
+pub withdraw_admit : (t : Table) → Made t → (f : Flow) → Present t f → admitted (withdrawn t f.number).table f ≡ answered accepted t
 withdraw_admit t m f p = right_again t (made-right t m) f p
 
 -- ---- any accepted set

@@ -1,5 +1,5 @@
 -- What each call promises of a table that calls made: RULES, demands, in the demands' words. The equations that callers use stand in Calls.
-use Rattle.std.specs.Prelude.{ℕ, ◌≤◌, ◌<◌, ◌≡◌, ◌⊎◌}
+use Rattle.std.specs.Prelude.{ℕ, ◌≤◌, ◌<◌, ◌≡◌, ◌⊎◌, Ok, Err}
 use mathlib.Core.List.{Memᴰ}
 use Rattle.rules.specs.Net as net
 use Rattle.rules.specs.Formula.{Arrivals}
@@ -8,16 +8,14 @@ use Rattle.flows.specs.declared.Flow.{Flow}
 use Rattle.flows.specs.declared.Figures.{Figures}
 use Rattle.flows.specs.declared.Table.{Table}
 use Rattle.flows.specs.declared.Answer.{Answer}
-use Rattle.flows.specs.declared.Asked.{Asked}
-use Rattle.flows.specs.declared.Asked.TheVariants.{Given, Refused}
-use Rattle.flows.specs.declared.Cause.{Cause}
-use Rattle.flows.specs.declared.Cause.TheVariants.{Accepted, Absent}
+use Rattle.flows.specs.declared.Cause.TheVariants.{Absent}
+use Rattle.flows.specs.Refusals.{Ruling, accepted, cause_in, place_in}
 use Rattle.flows.specs.Lists.{held, flow_of, figures_of, net_from, table_net}
 use Rattle.flows.specs.WellFormed.{Exactly, Exact, OfDelays}
 use Rattle.row.specs.Rows.{insert_sorted}
 use Rattle.row.specs.Sets.{Enters, OfEntry}
-use Rattle.engine.specs.Verdicts.{verdict_from}
-use Rattle.table.specs.Calls.{answered, admitted, asked_for}
+use Rattle.engine.specs.Verdicts.{ruling_of, verdict_from}
+use Rattle.table.specs.Calls.{Asked, answered, admitted, asked_for}
 use Rattle.table.specs.Made.{Made}
 
 abbrev pub Present : Table → Flow → Type 0
@@ -30,7 +28,7 @@ Unused t number = (f : Flow) → Present t f → f.number ≡ number → ⊥
 -- what asking for a flow gave: demand 2's figures, the bound within the deadline
 pub record Stored (t : Table) (S : Arrivals) (f : Flow) (asked : Asked) : Type 0 where
   pub shown : Figures
-  pub asking : asked ≡ Given shown
+  pub asking : asked ≡ Ok shown
   pub right : IsFigures (table_net t) S (flow_of f) (figures_of shown)
   pub timely : shown.bound ≤ f.deadline
 
@@ -57,11 +55,11 @@ SameLinks t u = (t.lmin ≡ u.lmin) × (t.lmax ≡ u.lmax)
 
 -- ---- a fresh table
 pub record Freshly (lmin lmax : ℕ) (r : Answer) : Type 0 where
-  pub cause : Exact r.cause (OfDelays lmin lmax)
-  pub place : r.place ≡ 0
+  pub cause : Exact (cause_in r.outcome) (OfDelays lmin lmax)
+  pub place : place_in r.outcome ≡ 0
   pub empty : (f : Flow) → Present r.table f → ⊥
-  pub accepted : r.cause ≡ Accepted → (r.table.lmin ≡ lmin) × (r.table.lmax ≡ lmax)
-  pub refused : (r.cause ≡ Accepted → ⊥) → (r.table.lmin ≡ 0) × (r.table.lmax ≡ 0)
+  pub accepted : cause_in r.outcome ≡ Ok tt → (r.table.lmin ≡ lmin) × (r.table.lmax ≡ lmax)
+  pub refused : (cause_in r.outcome ≡ Ok tt → ⊥) → (r.table.lmin ≡ 0) × (r.table.lmax ≡ 0)
   pub sound : Sound r.table
 
 -- ---- admission
@@ -79,39 +77,39 @@ pub data Unfit (N : net.Net) : Type 0 where
   past_deadline : (S : Arrivals) (i : net.Flow) (b : ℕ) → LeastSettled N S → Here N i → IsBound N i S b → i.deadline < b → Unfit N
 
 -- the lowest refusal from 2 to 10 that applies, with the least flow at fault: 2 to 6 of the flow, then the judgement of the enlarged set that is meant
-pub data OfAdmission (t : Table) (f : Flow) : Cause → Type 0 where
-  by-entry : (c : Cause) → (c ≡ Accepted → ⊥) → OfEntry (held t.row) f c → OfAdmission t f c
-  by-set : (v : net.Judgement) → Enters (held t.row) f → Judged (enlarged_net t f) v → OfAdmission t f (verdict_from v).cause
+pub data OfAdmission (t : Table) (f : Flow) : Ruling → Type 0 where
+  by-entry : (c : Ruling) → (c ≡ accepted → ⊥) → OfEntry (held t.row) f c → OfAdmission t f c
+  by-set : (v : net.Judgement) → Enters (held t.row) f → Judged (enlarged_net t f) v → OfAdmission t f (ruling_of (verdict_from v))
 
 pub record Admitting (t : Table) (f : Flow) (r : Answer) : Type 0 where
-  pub cause : Exact r.cause (OfAdmission t f)
-  pub place : r.place ≡ 0
+  pub cause : Exact (cause_in r.outcome) (OfAdmission t f)
+  pub place : place_in r.outcome ≡ 0
   -- a well-formed new flow, its number unused, room left and paths crossing as permitted, is refused exactly if the enlarged set is unfit
-  pub exactly : Enters (held t.row) f → CrossingPermitted (enlarged_net t f) → Exactly (r.cause ≡ Accepted → ⊥) (Unfit (enlarged_net t f))
-  pub refused : (r.cause ≡ Accepted → ⊥) → r.table ≡ t
+  pub exactly : Enters (held t.row) f → CrossingPermitted (enlarged_net t f) → Exactly (cause_in r.outcome ≡ Ok tt → ⊥) (Unfit (enlarged_net t f))
+  pub refused : (cause_in r.outcome ≡ Ok tt → ⊥) → r.table ≡ t
   pub links : SameLinks r.table t
-  pub present : r.cause ≡ Accepted → (g : Flow) → Exactly (Present r.table g) ((g ≡ f) ⊎ Present t g)
+  pub present : cause_in r.outcome ≡ Ok tt → (g : Flow) → Exactly (Present r.table g) ((g ≡ f) ⊎ Present t g)
   pub sound : Sound r.table
 
 -- ---- withdrawal
 -- f is gone, the others stay, no remaining bound that asking gives is higher, and admitting f again gives the table as it was
 pub record Gone (t : Table) (f : Flow) (r : Answer) : Type 0 where
-  pub succeeds : r.cause ≡ Accepted
+  pub succeeds : cause_in r.outcome ≡ Ok tt
   pub others : (g : Flow) → Exactly (Present r.table g) ((g.number ≡ f.number → ⊥) × Present t g)
-  pub lowers : (g : Flow) → Present r.table g → (before after : Figures) → asked_for t g.number ≡ Given before →
-      asked_for r.table g.number ≡ Given after → after.bound ≤ before.bound
-  pub again : admitted r.table f ≡ answered Accepted t
+  pub lowers : (g : Flow) → Present r.table g → (before after : Figures) → asked_for t g.number ≡ Ok before →
+      asked_for r.table g.number ≡ Ok after → after.bound ≤ before.bound
+  pub again : admitted r.table f ≡ answered accepted t
 
 pub record Withdrawing (t : Table) (number : ℕ) (r : Answer) : Type 0 where
-  pub place : r.place ≡ 0
-  pub absent : Unused t number → (r.cause ≡ Absent) × (r.table ≡ t)
+  pub place : place_in r.outcome ≡ 0
+  pub absent : Unused t number → (cause_in r.outcome ≡ Err Absent) × (r.table ≡ t)
   pub present : (f : Flow) → Present t f → f.number ≡ number → Gone t f r
   pub links : SameLinks r.table t
   pub sound : Sound r.table
 
 -- ---- asking
 pub record Asking (t : Table) (number : ℕ) (r : Asked) : Type 0 where
-  pub absent : Unused t number → r ≡ Refused (record { number = 11; flow = 0; place = 0 })
+  pub absent : Unused t number → r ≡ Err (record { cause = Absent; place = 0 })
   pub arrivals : Arrivals
   pub least : LeastSettled (table_net t) arrivals
   pub present : (f : Flow) → Present t f → f.number ≡ number → Stored t arrivals f r

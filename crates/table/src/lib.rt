@@ -7,65 +7,58 @@ ghost use Rattle.table.specs.Calls.{empty_table, answered, fresh_answer, holding
 ghost use Rattle.table.specs.Made.{Made};
 ghost use Rattle.table.specs.Demands.{Freshly, Admitting, Withdrawing, Asking};
 
-use engine::Verdict;
-use flows::{Answer, Asked, Cause, FLOWS, Flow, Row, Table};
-use row::Found;
+use engine::NO_FIGURES;
+use flows::{Answer, Cause, FLOWS, Figures, Flow, Refusal, Row, Table};
 
+#[tactic(auto, unfolding(crate::specs::Calls::empty_table))]
 fn empty(lmin: u16, lmax: u16) -> Table
     ensures { result ≡ empty_table lmin lmax }
 {
-    let none = engine::no_figures();
-    let row = row::none();
     Table {
         lmin,
         lmax,
-        row,
-        figures: [none; FLOWS],
+        row: row::none(),
+        figures: [NO_FIGURES; FLOWS],
     }
 }
 
-fn hand_back(cause: Cause, t: Table) -> Answer
-    ensures { result ≡ answered cause t }
+#[tactic(auto, unfolding(crate::specs::Calls::answered))]
+fn hand_back(ruling: Result<(), Cause>, table: Table) -> Answer
+    ensures { result ≡ answered ruling table }
 {
-    Answer {
-        cause,
-        place: 0,
-        table: t,
-    }
+    let outcome = match ruling {
+        Ok(()) => Ok(()),
+        Err(cause) => Err(cause.at(0)),
+    };
+    Answer { outcome, table }
 }
 
 pub fn fresh(lmin: u16, lmax: u16) -> Answer
     ensures value { result ≡ fresh_answer lmin lmax }
     ensures freshly { Freshly lmin lmax result }
 {
-    let cause = flows::delay_cause(lmin, lmax);
-    if !flows::accepted(cause) {
-        return hand_back(cause, empty(0, 0));
+    match flows::delay_cause(lmin, lmax) {
+        Ok(()) => hand_back(Ok(()), empty(lmin, lmax)),
+        Err(cause) => hand_back(Err(cause), empty(0, 0)),
     }
-    hand_back(Cause::Accepted, empty(lmin, lmax))
 }
 
 // The row and its figures, in the network of t.
-fn hold(t: Table, row: Row, verdict: Verdict) -> Table
-    ensures { result ≡ holding t row verdict.figures }
+#[tactic(auto, unfolding(crate::specs::Calls::holding))]
+fn hold(t: Table, row: Row, figures: [Figures; FLOWS]) -> Table
+    ensures { result ≡ holding t row figures }
 {
-    let figures = verdict.figures;
-    Table {
-        lmin: t.lmin,
-        lmax: t.lmax,
-        row,
-        figures,
-    }
+    Table { row, figures, ..t }
 }
 
-fn decide(t: Table, row: Row, verdict: Verdict) -> Answer
+#[tactic(auto, unfolding(crate::specs::Calls::decided, crate::specs::Calls::unless))]
+fn decide(t: Table, row: Row, verdict: Result<[Figures; FLOWS], Cause>) -> Answer
     ensures { result ≡ decided t row verdict }
 {
-    let fault = verdict.cause;
-    if !flows::accepted(fault) {
-        return hand_back(fault, t);
+    match verdict {
+        Ok(figures) => hand_back(Ok(()), hold(t, row, figures)),
+        Err(fault) => hand_back(Err(fault), t),
     }
-    hand_back(Cause::Accepted, hold(t, row, verdict))
 }
 
 // For a table that no call made the answer is not said, since a verdict is said of valid sets only. That f is typed is for callers who keep it
@@ -75,37 +68,34 @@ pub fn admit(t: Table, f: Flow) -> Answer
     ensures admitting { Made t → Admitting t f result }
     ensures typed { Typed f }
 {
-    let row = t.row;
-    let cause = row::entry_cause(row, f);
-    if !flows::accepted(cause) {
-        return hand_back(cause, t);
+    match row::entry_cause(t.row, f) {
+        Ok(()) => {
+            let larger = row::insert(t.row, f);
+            decide(t, larger, engine::judge(larger, t.lmin, t.lmax))
+        },
+        Err(cause) => hand_back(Err(cause), t),
     }
-    let larger = row::insert(row, f);
-    let verdict = engine::judge(larger, t.lmin, t.lmax);
-    decide(t, larger, verdict)
 }
 
-// As for admit.
+// As for admit. The smaller set of a table that calls made is accepted; figures of 0 are for any other.
 pub fn withdraw(t: Table, number: u8) -> Answer
     ensures value { Made t → result ≡ withdrawn t number }
     ensures withdrawing { Made t → Withdrawing t number result }
 {
-    let row = t.row;
-    let Found::At(_) = row::find(row, number) else {
-        return hand_back(Cause::Absent, t);
-    };
-    let smaller = row::remove(row, number);
-    let verdict = engine::judge(smaller, t.lmin, t.lmax);
-    hand_back(Cause::Accepted, hold(t, smaller, verdict))
+    if row::find(t.row, number).is_none() {
+        return hand_back(Err(Cause::Absent), t);
+    }
+    let smaller = row::remove(t.row, number);
+    let figures = engine::judge(smaller, t.lmin, t.lmax).unwrap_or([NO_FIGURES; FLOWS]);
+    hand_back(Ok(()), hold(t, smaller, figures))
 }
 
-pub fn ask(t: Table, number: u8) -> Asked
+pub fn ask(t: Table, number: u8) -> Result<Figures, Refusal>
     ensures value { result ≡ asked_for t number }
     ensures asking { Made t → Asking t number result }
 {
-    let row = t.row;
-    let Found::At(place) = row::find(row, number) else {
-        return Asked::Refused(flows::refuse(Cause::Absent, 0));
-    };
-    Asked::Given(t.figures[place])
+    match row::find(t.row, number) {
+        Some(place) => Ok(t.figures[place]),
+        None => Err(Cause::Absent.at(0)),
+    }
 }

@@ -1,38 +1,20 @@
 -- How long a node, the first nodes, and all of them over window after window are calm. Assumes nothing.
-use mathlib.Core.Path.{◌≡◌, sym, ap, subst}
+use mathlib.Core.Path.{◌≡◌, subst}
 use mathlib.Core.Logic.{inl, inr}
 use mathlib.Core.List.{List}
-use Prim.Native.Nat.{ℕ, zero, suc, ◌+◌, ◌-◌, ◌≤◌, ◌<◌}
+use Prim.Native.Nat.{ℕ, ◌+◌, ◌-◌, ◌≤◌, ◌<◌}
 use native.Mathlib.Omega.{arith}
-use native.Mathlib.Numerals.{add-one}
 use borrow.Author.Count.{below_more}
 use Rattle.least.specs.Lists.{values}
 use Rattle.least.proofs.Count.{le_or-lt}
 use Rattle.blocks.specs.Sheet.{added}
 use Rattle.tallies.specs.Ceilings.{ceiling_sum, Calm, Above, CalmAt, CalmTo, NextAbove}
-use Rattle.tallies.specs.Tallies.{Tallied}
-
--- φ at the tick before, at the first φ itself, and what the tally has there
-pub tallied_at : (φ : ℕ → ℕ) (n : ℕ) (tally : List ℕ) → Tallied φ n tally → (i : ℕ) → i < n → φ (i - 1) + values tally i ≡ φ i
-tallied_at φ n tally t zero h = omega (arith, t.first)
-tallied_at φ n tally t (suc i) h =
-    let back : i + 1 - 1 ≡ i = omega arith in
-    rw (sym (add-one i)) (omega (arith, t.each i (omega arith), ap φ back))
 
 -- the ticks before i are calm at node p, which is not above its ceiling at u without a sum
 pub record Calming (e best : List ℕ) (p u limit sum i : ℕ) : Type 0 where
   pub limited : limit + added e p ≡ values best p + u
   pub running : sum ≡ ceiling_sum e best p (u + (i - 1))
   pub calm : (j : ℕ) → j < i → Calm e best p (u + j)
-
-module _ (e best : List ℕ) (p u n limit sum i : ℕ) (c : Calming e best p u limit sum i) where
-  -- the next tick is above
-  pub calming_until : (tally : List ℕ) → Tallied (λ j. ceiling_sum e best p (u + j)) n tally → i < n → limit + i < sum + values tally i → CalmAt e best p u n i
-  calming_until tally t on h = record {
-    most = omega arith;
-    calm = c.calm;
-    above = λ g. omega (arith, c.limited, c.running, tallied_at (λ j. ceiling_sum e best p (u + j)) n tally t i on);
-  }
 
 module _ (e best : List ℕ) (u n : ℕ) where
   -- the first nodes are calm, so none of them has its ceiling below 0

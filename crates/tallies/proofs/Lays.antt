@@ -13,7 +13,6 @@ use borrow.Author.Tests.{eqb-true, eqb-false}
 use Rattle.least.specs.Count.{count}
 use Rattle.least.specs.Lists.{values}
 use Rattle.least.proofs.Count.{le_or-lt, count_in_lem, count_out, count-le, le-count, count_rises, count_tick, div-none}
-use Rattle.tallies.specs.Tallies.{Laid}
 
 -- d ticks on, count(a + d − b, T) steps up
 pub record OnStep (a b t d : ℕ) : Type 0 where
@@ -113,18 +112,12 @@ module _ (a b t w : ℕ) (some : 0 < t) (tally₀ : List ℕ) where
               | inr q ↦ omega (arith, same, l.each i q)
             ]
 
-    pub laying_all : (n : ℕ) → n ≤ d → Laid (λ i. count (i + a) b t * w) n tally₀ tally
-    laying_all n h = record { first = l.first; each = λ i q. l.each i (omega arith); long = l.long }
-
 -- no time is so long that a second packet would be counted; with no period there is one, too
 pub count_far : (t a b : ℕ) → t ≡ 0 → a < 134217728 → count a b 134217728 ≡ count a b t
 count_far t a b none h = elim (le_or-lt b a) [
   | inl q ↦ omega (arith, count_in_lem a b 134217728 q, count_in_lem a b t q, div-none (a - b) t (omega arith), (div-lt_iff_lt-mul {k = 134217728} {x = a - b} {y = 1} (omega arith)).1 (omega arith))
   | inr q ↦ omega (arith, count_out a b 134217728 q, count_out a b t q)
 ]
-
-pub lay-small : (c t : ℕ) → c ≤ 67108864 → t ≤ 134217728 → c * t ≤ 9007199254740992
-lay-small c t h g = omega (arith, mul-le-mul {n₁ = c} {m₁ = t} {n₂ = 67108864} {m₂ = 134217728} h g)
 
 pub weigh-small : (c w : ℕ) → c ≤ 67108864 → w < 16777216 → c * w < 2251799813685248
 weigh-small c w h g = omega (arith, mul-le-mul {n₁ = c} {m₁ = w} {n₂ = 67108864} {m₂ = 16777215} h (omega arith))

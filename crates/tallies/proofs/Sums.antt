@@ -7,7 +7,7 @@ use native.Mathlib.Omega.{arith}
 use native.Mathlib.Nat.{le_refl}
 use native.Mathlib.Numerals.{add-one}
 use lib.Dec.{eqb}
-use borrow.Author.Tests.{eq-eqb, ne_eqb, eqb-false}
+use borrow.Author.Tests.{eqb-false}
 use Rattle.least.specs.Count.{pick, count}
 use Rattle.least.specs.Fold.{sum_to}
 use Rattle.least.specs.Lists.{values}
@@ -27,16 +27,6 @@ abbrev pub Fits : List ℕ → List ℕ → ℕ → ℕ → Type 0
 Fits e best p u = (q : ℕ) → q ≤ p → added e q ≤ values best q + u
 
 module _ (e best : List ℕ) (p u s : ℕ) where
-  -- where a count looks
-  pub looked_here : s ≡ here_slot → ceiling e best u p ≡ ceilings e best p u s
-  looked_here is = rw (eq-eqb s here_slot is)
-
-  pub looked_instant : (s ≡ here_slot → ⊥) → s ≡ instant_slot → u ≡ ceilings e best p u s
-  looked_instant not is = rw (ne_eqb s here_slot not, eq-eqb s instant_slot is)
-
-  pub looked_node : (s ≡ here_slot → ⊥) → (s ≡ instant_slot → ⊥) → ceiling e best u (s - 2) ≡ ceilings e best p u s
-  looked_node not never = rw (ne_eqb s here_slot not, ne_eqb s instant_slot never)
-
   module _ (slot : s < node_slot p) where
     -- each goes on with the instant
     pub ceilings_on : Fits e best p u → (i : ℕ) → ceilings e best p (u + i) s ≡ ceilings e best p u s + i

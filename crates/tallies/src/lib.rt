@@ -34,6 +34,7 @@ fn lay(tally: &mut [u64], a: u64, b: u64, t: u64, w: u64, n: usize) -> u64
     ensures value { (result ≡ count a b t * w) × (result < 2251799813685248) }
 {
     let c = blocks::count_of(a, b, t);
+    // Not by `step_by`, which goes through every tick between: one step a period.
     let mut d = (b + c * t - a) as usize;
     while d < n {
         tally[d] += w;
@@ -48,7 +49,7 @@ fn ceiling_at(e: &[u64], best: &[u64], p: usize, u: u64) -> u64
     ensures upper_bound { result < 17039360 }
 {
     let at = blocks::block_at(e, p);
-    least::less(best[p] + u, e[at + 1])
+    (best[p] + u).saturating_sub(e[at + 1])
 }
 
 // What the entry at k, of node p, looks at: the instant, or a ceiling.
@@ -104,14 +105,12 @@ fn tally_node(e: &[u64], tally: &mut [u64], best: &[u64], p: usize, u: u64, n: u
     ensures value { (result ≡ ceiling_sum e.now best.now p u) × ((i : ℕ) → i < n → ceiling_sum e.now best.now p (u + i) < 4611686018427387904) }
     ensures tally_len_unchanged { length tally.new ≡ length tally.old }
 {
-    least::fill(tally, n, 0);
+    tally[..n].fill(0);
     let block = blocks::block_at(e, p);
     let count = e[block + 2] as usize;
     let mut sum = e[block];
-    let mut q: usize = 0;
-    while q < count {
+    for q in 0..count {
         sum += lay_entry(e, tally, best, block + HEAD + q * ENTRY, p, u, n);
-        q += 1;
     }
     sum
 }
@@ -131,13 +130,11 @@ fn calm_at(e: &[u64], tally: &mut [u64], best: &[u64], p: usize, u: u64, n: usiz
     }
     let limit = bound + u - add;
     let mut sum = tally_node(e, tally, best, p, u, n);
-    let mut i: usize = 0;
-    while i < n {
+    for i in 0..n {
         sum += tally[i];
         if limit + (i as u64) < sum {
             return i;
         }
-        i += 1;
     }
     n
 }
@@ -149,13 +146,11 @@ fn calm_to(e: &[u64], tally: &mut [u64], best: &[u64], m: usize, u: u64, n: usiz
     ensures tally_len_unchanged { length tally.new ≡ length tally.old }
 {
     let mut calm = n;
-    let mut p: usize = 0;
-    while p < m {
+    for p in 0..m {
         calm = calm_at(e, tally, best, p, u, calm);
         if calm == 0 {
             return 0;
         }
-        p += 1;
     }
     calm
 }
@@ -169,7 +164,7 @@ pub fn next_above(e: &[u64], tally: &mut [u64], best: &[u64], m: usize, from: u6
 {
     let mut u = from;
     while u < end {
-        let n = least::lesser(end - u, tally.len() as u64);
+        let n = (end - u).min(tally.len() as u64);
         let calm = calm_to(e, tally, best, m, u, n as usize) as u64;
         if calm < n {
             return u + calm;

@@ -1,3 +1,2 @@
 -- The laws of `terms`.
-pub mod Turns
 pub mod Whole

@@ -1,3 +1,2 @@
 -- The laws of `ways`.
-pub mod Noted
 pub mod Noting

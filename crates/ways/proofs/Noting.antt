@@ -2,7 +2,7 @@
 use mathlib.Core.Path.{◌≡◌, sym, ap, subst, ◌∙◌}
 use mathlib.Core.Logic.{inl, inr}
 use mathlib.Core.List.{List}
-use Prim.Native.Nat.{ℕ, ◌+◌, ◌-◌, ◌*◌, ◌≤◌, ◌<◌}
+use Prim.Native.Nat.{ℕ, ◌+◌, ◌-◌, ◌≤◌, ◌<◌}
 use native.Mathlib.Nat.{mul-le-mul_right}
 use native.Mathlib.Omega.{arith}
 use lib.ListN.{length, set, length-set}
@@ -12,8 +12,8 @@ use Rattle.least.proofs.Count.{le_or-lt}
 use Rattle.least.proofs.Ranges.{sum_to_more}
 use Rattle.least.proofs.Stores.{ahead_none, ahead_set, ahead_then}
 use Rattle.rules.specs.Valid.{Valid}
-use Rattle.nets.specs.Nets.{Whole, count_in, room_in, length_in, hop_in, net_in}
-use Rattle.ways.specs.Ways.{way_at, WayFits, WayIs, PlacesAre, WaysAre}
+use Rattle.nets.specs.Nets.{count_in, room_in, length_in, hop_in, net_in}
+use Rattle.ways.specs.Ways.{way_at, WayFits, WayIs, PlacesAre}
 use Rattle.terms.specs.Whole.{least_over, lower_over, smin_over, way_over, term5_over, base_over}
 use Rattle.terms.proofs.Whole.{smin_whole, way_whole, base_whole}
 
@@ -132,10 +132,6 @@ module _ (net : List ℕ) where
           | inr q ↦ is-kept at net l l' (wrote_ahead l at x y z) a j (omega arith) (going.places.is v j q)
         ]
 
-  pub going_end : {l₀ l : List ℕ} {a k : ℕ} → (m : ℕ) → Going l₀ l a k → m ≡ length_in net a → k ≤ m → m ≤ k →
-      PlacesAre net l a (length_in net a) × Ahead (way_at net a 0) l₀ l
-  going_end {l₀} {l} {a} {k} m g e h i = (subst (PlacesAre net l a) (let s : k ≡ length_in net a = omega arith in s) g.places, g.ahead)
-
   -- one flow more
   module _ (l l' : List ℕ) (a : ℕ) where
     pub flow_more : ((b : ℕ) → b < a → PlacesAre net l b (length_in net b)) → PlacesAre net l' a (length_in net a) → Ahead (way_at net a 0) l l' →
@@ -147,12 +143,3 @@ module _ (net : List ℕ) where
         is = λ v k i. is-kept (way_at net a 0) net l l' ahead b k (flow-after b a k q i) ((old b q).is v k i);
       }
     ]
-
-  pub flows_end : {l : List ℕ} (a n : ℕ) → ((b : ℕ) → b < a → PlacesAre net l b (length_in net b)) → n ≡ count_in net → n ≤ a →
-      count_in net * room_in net * 3 ≤ length l → Whole net → WaysAre net l
-  flows_end a n all e h long whole = record {
-    fit = λ b k i. (all b (omega arith)).fit k;
-    is = λ v b k i. (all b (omega arith)).is v k;
-    long = long;
-    whole = whole;
-  }

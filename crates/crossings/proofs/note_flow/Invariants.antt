@@ -1,10 +1,7 @@
-use Prim.Native.Nat.{ℕ, ◌-◌, ◌≤◌, ◌<◌}
+use Prim.Native.Nat.{ℕ, ◌<◌}
 use Rattle.least.specs.Lists.{Ahead}
 use Rattle.crossings.specs.Pairs.{pair_at, PairIs}
 use Rattle.crossings.proofs.note_flow.Given as goal
 
 abbrev pub invariant-loop-b : goal.invariant-loop-b
-invariant-loop-b l = (l.b ≤ l.n) × Ahead (pair_at l.net l.a 0) l.initial.pairs l.pairs × ((j : ℕ) → j < l.b → PairIs l.net l.pairs l.a j)
-
-abbrev pub decreases-loop-b : goal.decreases-loop-b
-decreases-loop-b l = l.n - l.b
+invariant-loop-b l = Ahead (pair_at l.net l.a 0) l.initial.pairs l.pairs × ((j : ℕ) → j < l.b → PairIs l.net l.pairs l.a j)

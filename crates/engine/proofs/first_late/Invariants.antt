@@ -1,11 +1,7 @@
 use Rattle.engine.specs.Firsts.{deadline_at, bound_at}
 use Rattle.findings.specs.Findings.{Clear}
 use lib.Dec.{ltb}
-use Prim.Native.Nat.{◌-◌, ◌≤◌}
 use Rattle.engine.proofs.first_late.Given as goal
 
 abbrev pub invariant-loop-k : goal.invariant-loop-k
-invariant-loop-k l = (l.k ≤ l.n) × Clear (λ j. ltb (deadline_at l.row j) (bound_at l.figures j)) l.k
-
-abbrev pub decreases-loop-k : goal.decreases-loop-k
-decreases-loop-k l = l.n - l.k
+invariant-loop-k l = Clear (λ j. ltb (deadline_at l.row j) (bound_at l.figures j)) l.k

@@ -1,9 +1,6 @@
-use borrow.Author.Rules.{length_unmapped, rules}
-use Rattle.flows.proofs.Arrays.{path_short, path_long}
+use Rattle.std.proofs.Common.{rules}
+use Rattle.flows.proofs.Arrays.{path_capped}
 use Rattle.flows.proofs.path_end.Goals as goal
 
-pub returns-then-n-gt-NODES : goal.returns-then-n-gt-NODES
-returns-then-n-gt-NODES c = record { value = search (path_long, length_unmapped); upper_bound = search rules }
-
 pub returns : goal.returns
-returns c = record { value = search (path_short, length_unmapped); upper_bound = search rules }
+returns c = record { value = search (path_capped, rules); upper_bound = search rules }

@@ -1,10 +1,10 @@
-use Rattle.host.proofs.Reports.{report_refusal, report_fits, report_coded}
+use Rattle.host.proofs.Reports.{report_fits, report_coded}
 use Rattle.host.proofs.ReportPromises.{check_promise}
 use borrow.Author.Rules.{rules}
 use Rattle.host.proofs.kezhuvanam_report_check.Goals as goal
 
-pub code-requires : goal.code-requires
-code-requires c = search (report_fits, rules)
+pub outcome_code-requires : goal.outcome_code-requires
+outcome_code-requires c = search (report_fits, rules)
 
 pub returns : goal.returns
-returns c = record { value = search report_coded; checks = search (check_promise, report_refusal, report_coded, rules) }
+returns c = record { value = search report_coded; checks = search (check_promise, report_coded, rules) }

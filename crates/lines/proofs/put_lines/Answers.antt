@@ -1,18 +1,18 @@
 use mathlib.Core.Path.{◌≡◌}
+use native.Mathlib.Omega.{arith}
 use lib.ListN.{length}
 use Rattle.flows.specs.Lists.{most_flows}
 use Rattle.flows.proofs.Arrays.{length_of-map}
 use Rattle.lines.proofs.Puts.{puts_none, puts_more, puts_end}
-use borrow.Author.Rules.{rules}
-use native.Mathlib.Omega.{arith}
 use Rattle.lines.proofs.put_lines.Goals as goal
 
 pub loop-k-init : goal.loop-k-init
-loop-k-init c = (search rules, search puts_none, search rules)
+loop-k-init c = search puts_none
 
 pub loop-k-preserved : goal.loop-k-preserved
 loop-k-preserved c =
-    let l : length c.args.report.lines ≡ most_flows = search (length_of-map, c.well_formed) in (search rules, puts_more c.args.buffer.now c.loop-k.buffer _ c.args.report.lines c.loop-k.k _ (omega arith) (omega arith) c.loop-k.invariant.1 c.put_line.ensures, cc)
+    let l : length c.args.report.lines ≡ most_flows = search (length_of-map, c.well_formed) in
+    puts_more c.args.buffer.now c.loop-k.buffer _ c.args.report.lines c.loop-k.k _ (omega arith) (omega arith) c.loop-k.invariant c.put_line.ensures
 
 pub returns : goal.returns
-returns c = puts_end c.args.report c.args.buffer.now c.loop-k.buffer _ c.loop-k.k c.size-n.ensures.value (omega arith) c.loop-k.invariant.1
+returns c = puts_end c.args.report c.args.buffer.now c.loop-k.buffer _ c.loop-k.k c.size-k-end.ensures.value (omega arith) c.loop-k.invariant

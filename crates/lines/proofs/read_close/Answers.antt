@@ -1,18 +1,18 @@
 use mathlib.Core.Path.{sym, ◌∙◌}
-use Rattle.reader.specs.declared.Kind.TheVariants.{OfClose}
-use Rattle.reader.proofs.Places.{whole}
-use Rattle.lines.proofs.Steps.{close_other, close_more, close_last}
 use native.Mathlib.Omega.{arith}
+use Rattle.reader.specs.declared.Kind.TheVariants as kind
+use Rattle.reader.proofs.Places.{whole, saw_not, saw_none}
+use Rattle.lines.proofs.Steps.{close_other, close_more, close_last}
 use Rattle.lines.proofs.read_close.Goals as goal
 
-pub returns-in_default : goal.returns-in_default
-returns-in_default c = search close_other
+pub returns-then-ne : goal.returns-then-ne
+returns-then-ne c = search (close_other, saw_none)
 
 pub overflow_add-at : goal.overflow_add-at
-overflow_add-at c = omega (arith, whole _ _ OfClose tt (sym c.seen.ensures ∙ c.in-OfClose.is))
+overflow_add-at c = omega (arith, whole _ _ kind.Close (sym c.seen.ensures ∙ saw_not _ kind.Close _ c.ne.ensures c.if-ne.false))
 
 pub returns-then-at-bytes : goal.returns-then-at-bytes
-returns-then-at-bytes c = search close_more
+returns-then-at-bytes c = search (close_more, saw_not)
 
 pub returns : goal.returns
-returns c = search close_last
+returns c = search (close_last, saw_not)

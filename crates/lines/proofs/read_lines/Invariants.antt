@@ -7,8 +7,10 @@ use Rattle.lines.specs.Reports.{lines_in, report_of}
 use Rattle.lines.specs.Reading.{last_number, read_lines}
 use Rattle.lines.proofs.read_lines.Given as goal
 
-abbrev pub invariant-loop-report : goal.invariant-loop-report
-invariant-loop-report l = (l.report ≡ report_of (lines_in l.report)) × (l.last ≡ last_number (lines_in l.report)) × (read_lines (l.count - length (lines_in l.report)) (lines_in l.report) l.bytes l.at ≡ read_lines l.count [] l.bytes count_record)
-
-abbrev pub decreases-loop-report : goal.decreases-loop-report
-decreases-loop-report l = l.count - l.report.count
+abbrev pub invariant-loop : goal.invariant-loop
+invariant-loop l = record {
+  made : l.report ≡ report_of (lines_in l.report);
+  latest : l.last ≡ last_number (lines_in l.report);
+  counted : l.counter ≡ length (lines_in l.report);
+  rest : read_lines (l.count - l.counter) (lines_in l.report) l.bytes l.at ≡ read_lines l.count [] l.bytes count_record;
+}

@@ -1,4 +1,3 @@
-use Prim.Native.Nat.{◌≤◌, ◌-◌}
 use mathlib.Core.Path.{◌≡◌}
 use lib.ListN.{take}
 use Rattle.flows.specs.Lists.{held}
@@ -7,7 +6,4 @@ use Rattle.reports.specs.Reports.{lines_from}
 use Rattle.reports.proofs.report_of.Given as goal
 
 abbrev pub invariant-loop-k : goal.invariant-loop-k
-invariant-loop-k l = (l.k ≤ l.n) × (l.report ≡ report_of (take l.k (lines_from (held l.row) l.t.figures)))
-
-abbrev pub decreases-loop-k : goal.decreases-loop-k
-decreases-loop-k l = l.n - l.k
+invariant-loop-k l = l.report ≡ report_of (take l.k (lines_from (held l.t.row) l.t.figures))

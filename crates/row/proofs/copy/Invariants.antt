@@ -7,7 +7,4 @@ use Rattle.flows.specs.declared.Flow.{Flow}
 use Rattle.row.proofs.copy.Given as goal
 
 abbrev pub invariant-loop-k : goal.invariant-loop-k
-invariant-loop-k l = (l.a ≤ l.k) × (l.k - l.a ≤ l.b - l.a) × (l.to.count ≡ l.initial.to.count + (l.k - l.a)) × ((fs : List Flow) → l.initial.to ≡ row_of fs → l.to ≡ row_of (fs ++ take (l.k - l.a) (drop l.a l.row.flows)))
-
-abbrev pub decreases-loop-k : goal.decreases-loop-k
-decreases-loop-k l = l.b - l.k
+invariant-loop-k l = (l.k - l.a ≤ l.b - l.a) × (l.to.count ≡ l.initial.to.count + (l.k - l.a)) × ((fs : List Flow) → l.initial.to ≡ row_of fs → l.to ≡ row_of (fs ++ take (l.k - l.a) (drop l.a l.row.flows)))

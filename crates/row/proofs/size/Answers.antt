@@ -1,10 +1,7 @@
 use borrow.Author.Rules.{rules}
-use Rattle.row.proofs.Arrays.{size_all, size_count}
+use Rattle.row.proofs.Arrays.{size_capped}
 use Rattle.flows.proofs.Arrays.{length_of-map}
 use Rattle.row.proofs.size.Goals as goal
 
-pub returns-then-n-gt-FLOWS : goal.returns-then-n-gt-FLOWS
-returns-then-n-gt-FLOWS c = record { value = search (size_all, length_of-map); upper_bound = search rules }
-
 pub returns : goal.returns
-returns c = record { value = search (size_count, length_of-map); upper_bound = search rules }
+returns c = record { value = search (size_capped, length_of-map); upper_bound = search rules }

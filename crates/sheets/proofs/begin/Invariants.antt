@@ -1,5 +1,4 @@
 use mathlib.Core.Path.{◌≡◌}
-use Prim.Native.Nat.{◌-◌, ◌≤◌}
 use lib.ListN.{length}
 use Rattle.rules.specs.Valid.{Valid}
 use Rattle.nets.specs.Nets.{count_in, length_in, net_in}
@@ -8,7 +7,4 @@ use Rattle.sheets.proofs.Writing.{base_at, add_at}
 use Rattle.sheets.proofs.begin.Given as goal
 
 abbrev pub invariant-loop-p : goal.invariant-loop-p
-invariant-loop-p l = (l.p ≤ l.m) × (length l.sheet ≡ length l.initial.sheet) × Heads (Valid (net_in l.net)) (count_in l.net) (length_in l.net l.a) (base_at l.net l.a) (add_at l.net l.a) l.sheet l.p
-
-abbrev pub decreases-loop-p : goal.decreases-loop-p
-decreases-loop-p l = l.m - l.p
+invariant-loop-p l = (length l.sheet ≡ length l.initial.sheet) × Heads (Valid (net_in l.net)) (count_in l.net) (length_in l.net l.a) (base_at l.net l.a) (add_at l.net l.a) l.sheet l.p

@@ -13,53 +13,34 @@ use Rattle.sheets.proofs.write_equal.Goals.{In-loop-p, After-nearer-g}
 use Rattle.sheets.proofs.write_equal.Goals as goal
 
 inside : (c : In-loop-p) →
-    c.loop-p.p < length_in c.args.net.now c.args.a
+    c.loop-p.p < length_in c.args.set.now.net.now c.args.a
 inside c = omega arith
 
 next : (c : After-nearer-g) →
-    (c.nearer-g.result ≡ near_to c.args.net.now c.args.a c.args.b (suc c.loop-p.p)) × Shared c.args.net.now c.args.a c.args.b c.first-first.result (near_to c.args.net.now c.args.a c.args.b) (c.loop-p.p + 1) c.nearer-g.result
+    (c.nearer-g.result ≡ near_to c.args.set.now.net.now c.args.a c.args.b (suc c.loop-p.p)) × Shared c.args.set.now.net.now c.args.a c.args.b c.first-first.result (near_to c.args.set.now.net.now c.args.a c.args.b) (c.loop-p.p + 1) c.nearer-g.result
 next c =
-    near_more c.args.net.now c.args.a c.args.b c.first-first.result c.first-first.ensures c.loop-p.invariant.0 (omega arith) c.loop-p.invariant.5 c.nearer-g.ensures
+    near_more c.args.set.now.net.now c.args.a c.args.b c.first-first.result c.first-first.ensures c.loop-p.auto.p (omega arith) c.loop-p.invariant.3 c.nearer-g.ensures
 
-pub returns-then-m-first : goal.returns-then-m-first
-returns-then-m-first c =
-    let g = going_end (omega arith) (going_from c.requires.1 c.first-first.result (λ k h. from_none c.first-first.result (equal_at c.args.net.now c.args.a c.args.b (values c.args.replies.now) c.first-first.result) k h)) in
-    record { joined = record { place = c.first-first.result; first = c.first-first.ensures; grown = g }; sheet_len_unchanged = refl }
+pub returns-then-m-first-clause-joined : goal.returns-then-m-first-clause-joined
+returns-then-m-first-clause-joined c =
+    let g = going_end (omega arith) (going_from c.requires.1 c.first-first.result (λ k h. from_none c.first-first.result (equal_at c.args.set.now.net.now c.args.a c.args.b (values c.args.replies.now) c.first-first.result) k h)) in
+    record { place = c.first-first.result; first = c.first-first.ensures; grown = g }
 
 pub loop-p-init : goal.loop-p-init
 loop-p-init c = (
-  omega arith,
-  omega arith,
   refl,
   omega arith,
-  sym (weight_none c.args.net.now c.args.a c.args.b c.first-first.result c.first-first.ensures c.first-first.result (omega arith)),
-  shared_first c.args.net.now c.args.a c.args.b c.first-first.result c.first-first.ensures (near_to c.args.net.now c.args.a c.args.b) (omega arith),
-  going_from c.requires.1 c.first-first.result (λ k h. from_none c.first-first.result (equal_at c.args.net.now c.args.a c.args.b (values c.args.replies.now) c.first-first.result) k h),
+  sym (weight_none c.args.set.now.net.now c.args.a c.args.b c.first-first.result c.first-first.ensures c.first-first.result (omega arith)),
+  shared_first c.args.set.now.net.now c.args.a c.args.b c.first-first.result c.first-first.ensures (near_to c.args.set.now.net.now c.args.a c.args.b) (omega arith),
+  going_from c.requires.1 c.first-first.result (λ k h. from_none c.first-first.result (equal_at c.args.set.now.net.now c.args.a c.args.b (values c.args.replies.now) c.first-first.result) k h),
 )
-
-pub nearer-g-requires : goal.nearer-g-requires
-nearer-g-requires c = (c.requires.0.noted, c.loop-p.invariant.5.on, inside (goal.at.nearer-g-requires c).In-loop-p)
-
-pub heavier-weight-requires : goal.heavier-weight-requires
-heavier-weight-requires c = (c.requires.0.noted, inside (goal.at.heavier-weight-requires c).In-loop-p, c.loop-p.invariant.3)
-
-pub smallest-requires : goal.smallest-requires
-smallest-requires c =
-    let n = (next (goal.at.smallest-requires c).After-nearer-g).1 in
-    (c.requires.0.noted, c.requires.0.known, n.on, n.passes)
-
-pub arrival-requires : goal.arrival-requires
-arrival-requires c =
-    let n = (next (goal.at.arrival-requires c).After-nearer-g).1 in
-    (c.requires.0.noted.all.whole, c.requires.0.noted.one, omega (arith, n.on), c.requires.0.long, c.requires.0.bounds)
 
 pub append-requires : goal.append-requires
 append-requires c =
     let i = inside (goal.at.append-requires c).In-loop-p in (
-      c.requires.0.noted.all.whole,
       omega arith,
-      frame_less c.loop-p.p i c.loop-p.invariant.6.frame,
-      going_room c.requires.1 i c.loop-p.invariant.6,
+      frame_less c.loop-p.p i c.loop-p.invariant.4.frame,
+      going_room c.requires.1 i c.loop-p.invariant.4,
       omega arith,
       omega (arith, c.delay-plus.ensures.upper_bound, c.arrival.ensures.upper_bound),
       omega (arith, c.jitter.ensures.upper_bound, c.least_way.ensures.upper_bound, c.smallest.ensures.upper_bound),
@@ -67,35 +48,21 @@ append-requires c =
       omega (arith, c.heavier-weight.ensures.upper_bound),
     )
 
-pub overflow_add-p : goal.overflow_add-p
-overflow_add-p c = let i = inside (goal.at.overflow_add-p c).In-loop-p in omega arith
-
-pub loop-p-smaller : goal.loop-p-smaller
-loop-p-smaller c =
-    let i = inside (goal.at.loop-p-smaller c).In-loop-p in
-    omega (arith, c.hops-m.ensures.value)
-
 pub loop-p-preserved : goal.loop-p-preserved
 loop-p-preserved c =
     let r = values c.args.replies.now in
     let i = inside (goal.at.loop-p-preserved c).In-loop-p in
     let n = next (goal.at.loop-p-preserved c).After-nearer-g in
-    let w = max_to_next (cost_on c.args.net.now c.args.a c.args.b) c.loop-p.p c.loop-p.invariant.4 refl c.heavier-weight.ensures.value in (
-      omega (arith, c.loop-p.invariant.0),
-      omega (arith, c.hops-m.ensures.value),
-      c.append.ensures.sheet_len_unchanged ∙ c.loop-p.invariant.2,
+    let w = max_to_next (cost_on c.args.set.now.net.now c.args.a c.args.b) c.loop-p.p c.loop-p.invariant.2 refl c.heavier-weight.ensures.value in (
+      c.append.ensures.sheet_len_unchanged ∙ c.loop-p.invariant.0,
       c.heavier-weight.ensures.upper_bound,
       w,
       n.1,
-      going_more c.requires.1 i c.loop-p.invariant.6 (from_one c.first-first.result (equal_at c.args.net.now c.args.a c.args.b r c.first-first.result) c.loop-p.p c.loop-p.invariant.0) c.append.ensures.appended c.append.ensures.sheet_len_unchanged
+      going_more c.requires.1 i c.loop-p.invariant.4 (from_one c.first-first.result (equal_at c.args.set.now.net.now c.args.a c.args.b r c.first-first.result) c.loop-p.p c.loop-p.auto.p) c.append.ensures.appended c.append.ensures.sheet_len_unchanged
           (omega arith) (λ v.
-          equal_made c.args.net.now c.args.a c.args.b r c.first-first.result c.loop-p.p c.delay-plus.ensures.value (c.smallest.ensures.value v) c.period-period.ensures.value w n.0 c.jitter.ensures.value (c.least_way.ensures.value v)
+          equal_made c.args.set.now.net.now c.args.a c.args.b r c.first-first.result c.loop-p.p c.delay-plus.ensures.value (c.smallest.ensures.value v) c.period-period.ensures.value w n.0 c.jitter.ensures.value (c.least_way.ensures.value v)
           c.arrival.ensures.value),
     )
 
-pub shape_of-sheet : goal.shape_of-sheet
-shape_of-sheet c = c.loop-p.invariant.2
-
-pub returns : goal.returns
-returns c =
-    record { joined = record { place = c.first-first.result; first = c.first-first.ensures; grown = going_end (omega arith) c.loop-p.invariant.6 }; sheet_len_unchanged = c.loop-p.invariant.2 }
+pub returns-clause-joined : goal.returns-clause-joined
+returns-clause-joined c = record { place = c.first-first.result; first = c.first-first.ensures; grown = going_end (omega arith) c.loop-p.invariant.4 }

@@ -1,5 +1,5 @@
 use mathlib.Core.Path.{◌≡◌}
-use Prim.Native.Nat.{◌-◌, ◌≤◌}
+use Prim.Native.Nat.{◌≤◌}
 use lib.ListN.{length}
 use Rattle.least.specs.Lists.{values}
 use Rattle.rules.specs.Valid.{Valid}
@@ -11,8 +11,5 @@ use Rattle.entries.proofs.Rows.{Shared}
 use Rattle.sheets.proofs.write_equal.Given as goal
 
 abbrev pub invariant-loop-p : goal.invariant-loop-p
-invariant-loop-p l = (l.first ≤ l.p) × (l.p ≤ l.m) × (length l.sheet ≡ length l.initial.sheet) × (l.weight ≤ 65535) × (l.weight ≡ weight_to l.net l.a l.b l.p) × Shared l.net l.a l.b l.first (near_to l.net l.a l.b) l.p l.g
-    × Going (Valid (net_in l.net)) (count_in l.net) (length_in l.net l.a) (from_on l.first (equal_at l.net l.a l.b (values l.replies) l.first)) l.initial.sheet l.sheet l.p
-
-abbrev pub decreases-loop-p : goal.decreases-loop-p
-decreases-loop-p l = l.m - l.p
+invariant-loop-p l = (length l.sheet ≡ length l.initial.sheet) × (l.weight ≤ 65535) × (l.weight ≡ weight_to l.set.net.now l.a l.b l.p) × Shared l.set.net.now l.a l.b l.first (near_to l.set.net.now l.a l.b) l.p l.g
+    × Going (Valid (net_in l.set.net.now)) (count_in l.set.net.now) (length_in l.set.net.now l.a) (from_on l.first (equal_at l.set.net.now l.a l.b (values l.replies) l.first)) l.initial.sheet l.sheet l.p

@@ -15,24 +15,23 @@ inside c = omega arith
 
 pub loop-p-init : goal.loop-p-init
 unfolding max_to
-loop-p-init c = (omega arith, refl, omega arith, refl, going_from c.requires.2 0 (λ k h. absurd (omega arith)))
+loop-p-init c = (refl, omega arith, refl, going_from c.requires.1 0 (λ k h. absurd (omega arith)))
 
 pub append-requires : goal.append-requires
 append-requires c =
     let i = inside (goal.at.append-requires c).In-loop-p in
-    let room = going_room c.requires.2 i c.loop-p.invariant.4 in
-    (c.requires.0, omega arith, frame_less c.loop-p.p i c.loop-p.invariant.4.frame, room, omega arith, omega arith, omega arith, omega arith, omega arith)
+    let room = going_room c.requires.1 i c.loop-p.invariant.3 in
+    (omega arith, frame_less c.loop-p.p i c.loop-p.invariant.3.frame, room, omega arith, omega arith, omega arith, omega arith, omega arith)
 
 pub loop-p-preserved : goal.loop-p-preserved
 loop-p-preserved c =
-    let w = max_to_next (λ k. (hop_in c.args.net.now c.args.a k).cost) c.loop-p.p c.loop-p.invariant.3 c.cost.ensures.value c.greater-weight.ensures in (
-      omega arith,
-      c.append.ensures.sheet_len_unchanged ∙ c.loop-p.invariant.1,
+    let w = max_to_next (λ k. (hop_in c.args.net.now c.args.a k).cost) c.loop-p.p c.loop-p.invariant.2 c.cost.ensures.value c.max-weight.ensures in (
+      c.append.ensures.sheet_len_unchanged ∙ c.loop-p.invariant.0,
       omega arith,
       w,
-      going_more c.requires.2 (inside (goal.at.loop-p-preserved c).In-loop-p) c.loop-p.invariant.4 refl c.append.ensures.appended c.append.ensures.sheet_len_unchanged
+      going_more c.requires.1 (inside (goal.at.loop-p-preserved c).In-loop-p) c.loop-p.invariant.3 refl c.append.ensures.appended c.append.ensures.sheet_len_unchanged
           (omega arith) (λ v. own_made c.args.net.now c.args.a c.loop-p.p c.period-period.ensures.value w),
     )
 
-pub returns : goal.returns
-returns c = record { grown = going_end (omega arith) c.loop-p.invariant.4; sheet_len_unchanged = c.loop-p.invariant.1 }
+pub returns-clause-grown : goal.returns-clause-grown
+returns-clause-grown c = going_end (omega arith) c.loop-p.invariant.3

@@ -12,7 +12,7 @@ use Rattle.show.proofs.print_lines.Goals as goal
 pub loop-line-preserved : goal.loop-line-preserved
 loop-line-preserved g c =
     let items = take c.size.result c.args.report.lines in
-    subst (Appends _ _) (piece_more line_text items c.loop-line.line-index _ c.loop-line-test.true) (Appends-trans _ _ _ _ _ c.loop-line.invariant c.in_ok-print_flow.ensures)
+    subst (Appends _ _) (piece_more line_text items c.loop-line.line-index _ c.loop-line-test.true) (Appends-trans _ _ _ _ _ c.loop-line.invariant c.in_ok-writeln.ensures.bytes)
 
 pub returns : goal.returns
 unfolding report_text lines_in

@@ -14,32 +14,16 @@ use Rattle.steps.proofs.begin_node.Goals as goal
 
 pub loop-q-init : goal.loop-q-init
 loop-q-init c =
-    (omega arith, c.block_at-block.ensures.value, ap (λ x. values c.args.e.now (x + 2)) c.block_at-block.ensures.value, begun_none c.args.e.now c.args.p c.args.u c.block_at-block.result c.block_at-block.ensures.value, c.requires.0.small c.block_at-block.result, entered_none c.args.e.now c.args.end c.args.u c.args.p c.args.at c.args.steps.now (omega arith), λ z i h. absurd (omega arith))
-
-pub entry_step-step-requires : goal.entry_step-step-requires
-entry_step-step-requires c = (omega arith, c.requires.0.short, c.requires.1, omega arith, c.requires.0.small)
-
-pub instant_term-sum-requires : goal.instant_term-sum-requires
-instant_term-sum-requires c = (omega arith, c.requires.0.short, c.requires.0.small, omega arith)
+    (c.block_at-block.ensures.value, ap (λ x. values c.args.e.now (x + 2)) c.block_at-block.ensures.value, begun_none c.args.e.now c.args.p c.args.u c.block_at-block.result c.block_at-block.ensures.value, c.requires.0.small c.block_at-block.result, entered_none c.args.e.now c.args.end c.args.u c.args.p c.args.at c.args.steps.now (omega arith), λ z i h. absurd (omega arith))
 
 pub loop-q-preserved : goal.loop-q-preserved
 loop-q-preserved c =
-    let place = ap (λ b. b + head_size + c.loop-q.q * entry_size) c.loop-q.invariant.1 in
-    (omega arith, c.loop-q.invariant.1, c.loop-q.invariant.2, begun_more c.args.e.now c.args.p c.args.u c.loop-q.q c.loop-q.sum c.instant_term-sum.result _ place c.loop-q.invariant.3 c.instant_term-sum.ensures.value, omega arith, entered_more c.args.e.now c.args.end c.args.u c.args.p c.args.at c.args.steps.now c.loop-q.steps c.loop-q.next c.loop-q.q c.loop-q.invariant.5 (set c.loop-q.steps (c.args.at + kept_size + c.loop-q.q) c.entry_step-step.result) c.entry_step-step.result c.lesser-next.result _ place (inside-set c.loop-q.steps (c.args.at + kept_size + c.loop-q.q) c.entry_step-step.result) (get_or-set_same c.loop-q.steps (c.args.at + kept_size + c.loop-q.q) c.entry_step-step.result 0 (omega (arith, c.loop-q.invariant.5.inside.long))) c.entry_step-step.ensures c.lesser-next.ensures, λ z. below_more (λ i. values c.args.e.now (entry_at c.args.e.now c.args.p i) ≡ instant_slot) c.loop-q.q (c.loop-q.invariant.6 (c.looking-looks.ensures z).0) (omega (arith, ap (values c.args.e.now) place, (c.looking-looks.ensures z).1)))
+    let place = ap (λ b. b + head_size + c.loop-q.q * entry_size) c.loop-q.invariant.0 in
+    (c.loop-q.invariant.0, c.loop-q.invariant.1, begun_more c.args.e.now c.args.p c.args.u c.loop-q.q c.loop-q.sum c.instant_term-sum.result _ place c.loop-q.invariant.2 c.instant_term-sum.ensures.value, omega arith, entered_more c.args.e.now c.args.end c.args.u c.args.p c.args.at c.args.steps.now c.loop-q.steps c.loop-q.next c.loop-q.q c.loop-q.invariant.4 (set c.loop-q.steps (c.args.at + kept_size + c.loop-q.q) c.entry_step-step.result) c.entry_step-step.result c.min-next.result _ place (inside-set c.loop-q.steps (c.args.at + kept_size + c.loop-q.q) c.entry_step-step.result) (get_or-set_same c.loop-q.steps (c.args.at + kept_size + c.loop-q.q) c.entry_step-step.result 0 (omega (arith, c.loop-q.invariant.4.inside.long))) c.entry_step-step.ensures c.min-next.ensures, λ z. below_more (λ i. values c.args.e.now (entry_at c.args.e.now c.args.p i) ≡ instant_slot) c.loop-q.q (c.loop-q.invariant.5 (c.looking-looks.ensures z).0) (omega (arith, ap (values c.args.e.now) place, (c.looking-looks.ensures z).1)))
 
-pub bounds-steps-at-3 : goal.bounds-steps-at-3
-bounds-steps-at-3 c = simp length-set (omega (arith, c.loop-q.invariant.5.inside.long))
-
-pub bounds-steps-at-4 : goal.bounds-steps-at-4
-bounds-steps-at-4 c = simp length-set (omega (arith, c.loop-q.invariant.5.inside.long))
-
-pub shape_of-steps : goal.shape_of-steps
-shape_of-steps c = simp length-set c.loop-q.invariant.5.inside.long
-
-pub returns : goal.returns
-returns c =
+pub returns-clause-kept_at : goal.returns-clause-kept_at
+returns-clause-kept_at c =
     let steps = headed c.loop-q.steps c.args.at c.loop-q.sum c.loop-q.next in
-    let pair = entered_all c.args.e.now c.args.end c.args.u c.args.p c.args.at c.args.steps.now c.loop-q.steps c.loop-q.next c.loop-q.q c.loop-q.invariant.5 c.loop-q.sum _ (inside-set steps (c.args.at + 2) c.loop-q.looks) (omega arith)
-    (begun_all c.args.e.now c.args.p c.args.u c.loop-q.q c.loop-q.sum c.loop-q.invariant.3 (omega arith))
-    (subst (Looking c.args.e.now c.args.p) (sym (get_or-set_same steps (c.args.at + 2) c.loop-q.looks 0 (simp length-set (omega (arith, c.loop-q.invariant.5.inside.long))))) (λ z q h. c.loop-q.invariant.6 z q (omega arith))) (omega arith) in
-    record { kept_at = pair.0; inside = pair.1 }
+    (entered_all c.args.e.now c.args.end c.args.u c.args.p c.args.at c.args.steps.now c.loop-q.steps c.loop-q.next c.loop-q.q c.loop-q.invariant.4 c.loop-q.sum _ (inside-set steps (c.args.at + 2) c.loop-q.looks) (omega arith)
+    (begun_all c.args.e.now c.args.p c.args.u c.loop-q.q c.loop-q.sum c.loop-q.invariant.2 (omega arith))
+    (subst (Looking c.args.e.now c.args.p) (sym (get_or-set_same steps (c.args.at + 2) c.loop-q.looks 0 (simp length-set (omega (arith, c.loop-q.invariant.4.inside.long))))) (λ z q h. c.loop-q.invariant.5 z q (omega arith))) (omega arith)).0

@@ -1,11 +1,8 @@
-use Prim.Native.Nat.{◌-◌, ◌≤◌, ◌<◌}
+use Prim.Native.Nat.{◌<◌}
 use mathlib.Core.Path.{◌≡◌}
 use lib.ListN.{length}
 use Rattle.tallies.specs.Ceilings.{CalmTo}
 use Rattle.tallies.proofs.calm_to.Given as goal
 
 abbrev pub invariant-loop-p : goal.invariant-loop-p
-invariant-loop-p l = (l.p ≤ l.m) × (0 < l.calm) × CalmTo l.e l.best l.p l.u l.n l.calm × (length l.tally ≡ length l.initial.tally)
-
-abbrev pub decreases-loop-p : goal.decreases-loop-p
-decreases-loop-p l = l.m - l.p
+invariant-loop-p l = (0 < l.calm) × CalmTo l.e l.best l.p l.u l.n l.calm × (length l.tally ≡ length l.initial.tally)

@@ -5,20 +5,8 @@ use Rattle.least.specs.Lists.{values}
 use native.Mathlib.Omega.{arith}
 use Rattle.tallies.proofs.lay_entry.Goals as goal
 
-pub looked-requires : goal.looked-requires
-looked-requires c =
-    (c.requires.shaped.0, omega (arith, c.requires.shaped.1), c.requires.shaped.2, c.requires.shaped.3, c.requires.shaped.4, c.requires.shaped.5)
-
-pub overflow_add-looked : goal.overflow_add-looked
-overflow_add-looked c = omega (arith, c.looked.ensures.upper_bound, c.requires.shaped.0.small (c.args.k + 1))
-
-pub spacing-requires : goal.spacing-requires
-spacing-requires c = c.requires.shaped.0.small (c.args.k + 3)
-
-pub lay-requires : goal.lay-requires
-lay-requires c =
-    (omega (arith, c.looked.ensures.upper_bound, c.requires.shaped.0.small (c.args.k + 1)), c.requires.shaped.0.small (c.args.k + 2), c.spacing.ensures.result_nonzero.0, c.spacing.ensures.result_nonzero.1, c.requires.shaped.0.small (c.args.k + 4), c.requires.by_index.1, c.requires.by_index.2, c.requires.by_index.3)
-
 pub returns : goal.returns
 returns c =
-    let is = ap (λ x. x + values c.args.e.now (c.args.k + 1)) c.looked.ensures.value in let few : c.looked.result + values c.args.e.now (c.args.k + 1) < 67108864 = omega (arith, c.looked.ensures.upper_bound, c.requires.shaped.0.small (c.args.k + 1)) in record { laid = entry_laid c.args.e.now c.args.best.now c.args.p c.args.u c.args.k c.requires.shaped.2 (c.looked.result + values c.args.e.now (c.args.k + 1)) c.spacing.result is few c.spacing.ensures.by_index c.requires.by_index.0 c.args.n c.requires.by_index.2 c.args.tally.now c.lay.new.tally c.lay.ensures.laid; value = (c.lay.ensures.value.0 ∙ entry_first c.args.e.now c.args.best.now c.args.p c.args.u c.args.k c.requires.shaped.2 (c.looked.result + values c.args.e.now (c.args.k + 1)) c.spacing.result is few c.spacing.ensures.by_index, c.lay.ensures.value.1) }
+    let is = ap (λ x. x + values c.args.e.now (c.args.k + 1)) c.looked.ensures.value in
+    let few : c.looked.result + values c.args.e.now (c.args.k + 1) < 67108864 = omega (arith, c.looked.ensures.upper_bound, c.requires.shaped.0.small (c.args.k + 1)) in
+    record { laid = entry_laid c.args.e.now c.args.best.now c.args.p c.args.u c.args.k c.requires.shaped.2 _ c.spacing.result is few c.spacing.ensures.by_index c.requires.by_index.0 c.args.n c.requires.by_index.2 c.args.tally.now c.lay.new.tally c.lay.ensures.laid; value = (c.lay.ensures.value.0 ∙ entry_first c.args.e.now c.args.best.now c.args.p c.args.u c.args.k c.requires.shaped.2 _ c.spacing.result is few c.spacing.ensures.by_index, c.lay.ensures.value.1) }

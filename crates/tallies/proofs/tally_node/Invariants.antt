@@ -1,4 +1,4 @@
-use Prim.Native.Nat.{◌+◌, ◌-◌, ◌*◌, ◌≤◌, ◌<◌}
+use Prim.Native.Nat.{◌+◌, ◌*◌, ◌<◌}
 use mathlib.Core.Path.{◌≡◌}
 use lib.ListN.{length}
 use Rattle.least.specs.Lists.{values}
@@ -8,7 +8,4 @@ use Rattle.tallies.proofs.Sums.{part_sum}
 use Rattle.tallies.proofs.tally_node.Given as goal
 
 abbrev pub invariant-loop-q : goal.invariant-loop-q
-invariant-loop-q l = (l.q ≤ l.count) × (l.block ≡ block_at l.e l.p) × (l.count ≡ entries_in l.e l.p) × (l.sum ≡ values l.e (block_at l.e l.p) + part_sum l.e l.best l.p l.q l.u) × (l.sum < 16777216 + 2251799813685248 * l.q) × Tallied (λ i. part_sum l.e l.best l.p l.q (l.u + i)) l.n l.tally × (length l.tally ≡ length l.initial.tally)
-
-abbrev pub decreases-loop-q : goal.decreases-loop-q
-decreases-loop-q l = l.count - l.q
+invariant-loop-q l = (l.block ≡ block_at l.e l.p) × (l.count ≡ entries_in l.e l.p) × (l.sum ≡ values l.e (block_at l.e l.p) + part_sum l.e l.best l.p l.q l.u) × (l.sum < 16777216 + 2251799813685248 * l.q) × Tallied (λ i. part_sum l.e l.best l.p l.q (l.u + i)) l.n l.tally × (length l.tally ≡ length l.initial.tally)

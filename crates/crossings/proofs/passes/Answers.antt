@@ -1,5 +1,0 @@
-use Rattle.crossings.proofs.Meeting.{place_passes}
-use Rattle.crossings.proofs.passes.Goals as goal
-
-pub returns : goal.returns
-returns c = search place_passes

@@ -1,8 +1,0 @@
-use Rattle.lines.proofs.Arrays.{append_full, append_stored}
-use Rattle.lines.proofs.append.Goals as goal
-
-pub returns-then-at-ge-FLOWS : goal.returns-then-at-ge-FLOWS
-returns-then-at-ge-FLOWS c = search append_full
-
-pub returns : goal.returns
-returns c = search append_stored
