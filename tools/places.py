@@ -119,6 +119,6 @@ part(7, "matches and chains that choose a step", [f"{f.split('/')[1]}::{name}" f
     if re.search(r"match \w+ \{\n(.*=> \w+\(.*\n){2}", body) or len(re.findall(r"== \w+::[A-Z]+ \{", body)) > 1])
 if not WANTED or "8" in WANTED:
     def lines(pattern):
-        return sum(len(open(f).read().split("\n")) - 1 for f in glob.glob(pattern))
-    print(f"8 lines of proofs, function by function: {lines('crates/*/proofs/**/Answers.antt') + lines('crates/*/proofs/**/Invariants.antt')}, of laws: {lines('crates/*/proofs/*.antt')}")
-    print(f"8 answers: {sum(len(re.findall(r'^pub [a-z_]', open(f).read(), re.M)) for f in glob.glob('crates/*/proofs/*/Answers.antt'))}")
+        return sum(len(open(f).read().split("\n")) - 1 for f in glob.glob(pattern, recursive=True))
+    print(f"8 lines of proofs, function by function: {lines('crates/*/proofs/*/**/Answers.antt') + lines('crates/*/proofs/*/**/Invariants.antt')}, of laws: {lines('crates/*/proofs/*.antt')}")
+    print(f"8 answers: {sum(len(re.findall(r'^pub [a-z_]', open(f).read(), re.M)) for f in glob.glob('crates/*/proofs/*/**/Answers.antt', recursive=True))}")
