@@ -15,6 +15,7 @@ use borrow.Author.Tests.{ltb-true}
 use Rattle.least.specs.Count.{pick}
 use Rattle.least.specs.Lists.{values, First, Ahead}
 use Rattle.least.proofs.Lists.{first_same}
+use Rattle.least.proofs.Stores.{ahead_none, ahead_set, ahead_then}
 use Rattle.rules.specs.Formula.{role, first_on}
 use Rattle.nets.specs.Nets.{count_in, room_in, length_in, hop_in, path_in, flow_in}
 use Rattle.nets.proofs.Reading.{path_length}
@@ -114,8 +115,13 @@ module _ (net l : List ℕ) (a b : ℕ) (fits : pair_at net a b + pair_size net 
       turn = rw (turned-first, turned_turn, ← bound (ltb f (length_in net a)) refl) (first_same _ (place_on net a b) (length_in net a) _ t opened-places turn);
     }
 
+    ahead-noted : Ahead at l turned
+    ahead-noted =
+        ahead_set at l opened (ahead_set at l sided (ahead_set at l l (ahead_none at l) (at + w) s (omega arith)) (at + w + 1) f (omega arith)) (at + w + 2)
+        t (omega arith)
+
 -- the same of the numbers as the code has them
-pub pair-stored : (net l : List ℕ) (a b : ℕ) → pair_at net a b + pair_size net ≤ length l →
+pub pair-stored : (net l₀ l : List ℕ) (a b : ℕ) → pair_at net a b + pair_size net ≤ length l₀ → Ahead (pair_at net a b) l₀ l →
     ((k : ℕ) → k < length_in net a → values l (pair_at net a b + k) ≡ place_on net a b k) →
     (at w m n s f bound t : ℕ) → at ≡ pair_at net a b → w ≡ room_in net → m ≡ length_in net a → n ≡ length_in net b →
     s ≡ side_number (role (flow_in net a) (flow_in net b)) →
@@ -123,10 +129,15 @@ pub pair-stored : (net l : List ℕ) (a b : ℕ) → pair_at net a b + pair_size
     bound ≡ pick (ltb f m) (values (set (set l (at + w) s) (at + w + 1) f) (at + f)) 0 →
     First (λ k. values (set (set l (at + w) s) (at + w + 1) f) (at + k)) m bound t →
     PairIs net (set (set (set l (at + w) s) (at + w + 1) f) (at + w + 2) t) a b
-pair-stored net l a b fits places at w m n s f bound t e v p q side first z turn =
+    × Ahead (pair_at net a b) l₀ (set (set (set l (at + w) s) (at + w + 1) f) (at + w + 2) t)
+pair-stored net l₀ l a b fits h places at w m n s f bound t e v p q side first z turn =
+    let i : pair_at net a b + pair_size net ≤ length l = omega (arith, h.long) in
     let first' = rw (e, v, p, q) at first in
     let turn' = rw (z, e, v, p) at turn in
-    rw (e, v) (pair-noted net l a b fits places s f t first' turn' side)
+    rw (e, v) (
+      pair-noted net l a b i places s f t first' turn' side,
+      ahead_then (pair_at net a b) l₀ l h _ _ (omega arith) (ahead-noted net l a b i places s f t first' turn'),
+    )
 
 -- a pair is kept while later ones are stored
 module _ (net l l' : List ℕ) (a b a' b' : ℕ) (less : a' * count_in net + b' < a * count_in net + b) (h : Ahead (pair_at net a b) l l') where

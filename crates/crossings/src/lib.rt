@@ -115,7 +115,7 @@ fn note_flow(net: &Net, pairs: &mut [u8], a: usize)
 }
 
 // All pairs of a set.
-fn note_pairs(net: &Net, pairs: &mut [u8])
+pub fn note_pairs(net: &Net, pairs: &mut [u8])
     requires { (count_in net.now * count_in net.now * pair_size net.now ≤ length pairs.old) }
     ensures pairs_are { PairsAre net.now pairs.new }
     ensures pairs_len_unchanged { length pairs.new ≡ length pairs.old }
@@ -141,6 +141,15 @@ impl<'a> Crossings<'a> {
         ensures { result.net.now ≡ net.now }
     {
         note_pairs(net, pairs);
+        Crossings::from_noted(net, pairs)
+    }
+
+    // A set whose pairs stand noted in the bytes that are lent.
+    pub fn from_noted(net: &'a Net<'a>, pairs: &'a [u8]) -> Crossings<'a>
+        requires { PairsAre net.now pairs.now }
+        ensures same_net { result.net.now ≡ net.now }
+        ensures same_pairs { result.pairs.now ≡ pairs.now }
+    {
         Crossings { net, pairs }
     }
 
