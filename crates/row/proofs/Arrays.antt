@@ -74,7 +74,7 @@ held_all row n e = take_counted row.flows row.count n e
 
 -- ---- a flow put at the end
 module _ (row : Row) (f : Flow) where
-  append_stored : row.count < most_flows → record { flows = set row.flows row.count f; count = row.count + 1 } ≡ appended row f
+  pub append_stored : row.count < most_flows → record { flows = set row.flows row.count f; count = row.count + 1 } ≡ appended row f
   unfolding appended
   append_stored h = rw (lt-leb _ _ h)
 
@@ -118,8 +118,11 @@ module _ (row : Row) (p : ℕ → Bool) (n k : ℕ) (d : Flow) (len : length row
   pub search_here : p (get_or row.flows k d).number ≡ true → k ≡ first_of (λ (f : Flow). p f.number) (held row)
   search_here t = first_here _ (held row) k d inv (omega arith) (rw there t)
 
-pub search_end : (p : Flow → Bool) (fs : List Flow) (n k : ℕ) → n ≡ length fs → k ≤ n → n ≤ k → first_of p fs ≡ k + first_of p (drop k fs) → n ≡ first_of p fs
-search_end p fs n k e h g inv = let r = first-end p fs k no_flow inv (omega arith) in omega arith
+pub search_end : (p : Flow → Bool) (fs : List Flow) (n k : ℕ) → n ≡ length fs → n ≤ k → first_of p fs ≡ k + first_of p (drop k fs) → k ≡ first_of p fs
+search_end p fs n k e h inv = first-end p fs k no_flow inv (omega arith)
+
+pub search_past : (p : Flow → Bool) (fs : List Flow) (n k : ℕ) → n ≡ length fs → k ≤ n → n ≤ k → first_of p fs ≡ k + first_of p (drop k fs) → n ≡ first_of p fs
+search_past p fs n k e h g inv = let r = search_end p fs n k e g inv in omega arith
 
 -- ---- the last number
 pub last_none : (row : Row) (n : ℕ) → n ≡ length (held row) → n ≡ 0 → 0 ≡ last_number (held row)
