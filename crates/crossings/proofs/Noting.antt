@@ -17,7 +17,7 @@ use Rattle.least.specs.Lists.{values, First, Ahead}
 use Rattle.least.proofs.Lists.{first_same}
 use Rattle.least.proofs.Stores.{ahead_none, ahead_set, ahead_then}
 use Rattle.rules.specs.Formula.{role, first_on}
-use Rattle.nets.specs.Nets.{count_in, room_in, length_in, hop_in, path_in, flow_in}
+use Rattle.nets.specs.Nets.{count_in, room_in, length_in, hop_in, path_in, flow_in, position_of}
 use Rattle.nets.proofs.Reading.{path_length}
 use Rattle.nets.proofs.Places.{before_length}
 use Rattle.crossings.specs.declared.Role as declared
@@ -25,6 +25,12 @@ use Rattle.crossings.specs.declared.Role.TheVariants as code
 use Rattle.crossings.specs.contracts.Role.{the_type}
 use Rattle.crossings.specs.Pairs.{place_on, role_of, side_number, along_to, pair_size, pair_at, PairIs, Noted}
 use Rattle.crossings.proofs.Turns.{along_turn}
+
+-- the place of a node, as it is worked out
+module _ (net : List ℕ) (a b k : ℕ) where
+  pub place_made : (x h : ℕ) → x ≡ position_of h (path_in net b) → h ≡ (hop_in net a k).node → x ≡ place_on net a b k
+  unfolding place_on
+  place_made x h e q = e ∙ ap (λ n. position_of n (path_in net b)) q
 
 -- a place is at most as many as the path has nodes
 pub place_most : (net : List ℕ) (a b k : ℕ) → place_on net a b k ≤ length_in net b
@@ -63,6 +69,13 @@ tag_number code.Own = refl
 tag_number code.Higher = refl
 tag_number code.Equal = refl
 tag_number code.Lower = refl
+
+-- stores from a place on
+pub places_more : (g : ℕ → ℕ) (l : List ℕ) (at k x : ℕ) → at + k < length l → x ≡ g k → ((j : ℕ) → j < k → values l (at + j) ≡ g j) →
+    (j : ℕ) → j < k + 1 → values (set l (at + k) x) (at + j) ≡ g j
+places_more g l at k x q e inv =
+    below_more (λ j. values (set l (at + k) x) (at + j) ≡ g j) k (λ j r. get_or-set_other l (at + k) (at + j) x 0 (λ s. omega arith) ∙ inv j r)
+    (get_or-set_same l (at + k) x 0 q ∙ e)
 
 -- the pair is stored: places, then side, first shared place and turn behind them
 module _ (net l : List ℕ) (a b : ℕ) (fits : pair_at net a b + pair_size net ≤ length l)

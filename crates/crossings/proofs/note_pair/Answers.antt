@@ -1,5 +1,4 @@
 use mathlib.Core.Path.{ap, ◌∙◌}
-use native.Mathlib.Omega.{arith}
 use Rattle.crossings.specs.Pairs.{side_number}
 use Rattle.crossings.proofs.Noting.{tag_number, pair-stored}
 use Rattle.crossings.proofs.note_pair.Goals as goal
