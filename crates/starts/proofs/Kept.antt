@@ -23,8 +23,9 @@ strided-apart : {e : List ℕ} {stride m : ℕ} {steps : List ℕ} → Strided e
 strided-apart {stride} s p i h l = omega (arith, s.each p (omega arith), mul-le-mul_right {m = p + 1} {n = i} stride (omega arith))
 
 pub strided-room : {e : List ℕ} {stride m at p : ℕ} {steps : List ℕ} → Strided e stride m steps → at ≡ p * stride → p < m →
-    at + kept_size + entries_in e p ≤ length steps
-strided-room {m = m} {p = p} s is on = omega (arith, strided-apart s p m on (omega arith), s.long)
+    (at + kept_size + entries_in e p ≤ length steps) × (at + stride ≤ length steps)
+strided-room {stride} {m} {p} s is on =
+    (omega (arith, strided-apart s p m on (omega arith), s.long), omega (arith, mul-le-mul_right {m = p + 1} {n = m} stride (omega arith), s.long))
 
 -- only its own places count
 kept_same : {e : List ℕ} {end u p at : ℕ} {steps steps' : List ℕ} → ((k : ℕ) → at ≤ k → k < at + kept_size + entries_in e p → values steps' k ≡ values steps k) →

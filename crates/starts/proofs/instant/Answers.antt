@@ -7,10 +7,10 @@ use native.Mathlib.Omega.{arith}
 use Rattle.starts.proofs.instant.Goals as goal
 
 pub bounds-steps-at : goal.bounds-steps-at
-bounds-steps-at c = omega (arith, strided-room c.requires.strided.0 c.loop-p.invariant.1 (omega arith))
+bounds-steps-at c = omega (arith, (strided-room c.requires.strided.0 c.loop-p.invariant.1 (omega arith)).0)
 
 pub bounds-steps-at-in-loop-p : goal.bounds-steps-at-in-loop-p
-bounds-steps-at-in-loop-p c = omega (arith, strided-room c.requires.strided.0 c.loop-p.invariant.1 (omega arith))
+bounds-steps-at-in-loop-p c = omega (arith, (strided-room c.requires.strided.0 c.loop-p.invariant.1 (omega arith)).0)
 
 pub returns-in_err-w-clause-instant_is : goal.returns-in_err-w-clause-instant_is
 returns-in_err-w-clause-instant_is c =
