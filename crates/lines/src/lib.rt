@@ -113,9 +113,10 @@ fn line_at(bytes: &[u8], at: usize) -> Line
 fn read_close(bytes: &[u8], at: usize, report: Report) -> Result<Report, Refusal>
     ensures { result ≡ read_close report bytes.now at }
 {
-    if reader::seen(bytes, at) != Some(Kind::Close) {
-        return Err(Cause::Malformed.at(at));
-    }
+    let refusal = Cause::Malformed.at(at);
+    let Kind::Close = reader::seen(bytes, at).ok_or(refusal)? else {
+        return Err(refusal);
+    };
     if at + 1 < bytes.len() {
         return Err(Cause::Malformed.at(at + 1));
     }
@@ -131,9 +132,10 @@ fn read_lines(bytes: &[u8], count: usize) -> Result<Report, Refusal>
     let mut last = 0;
     let mut at = records::COUNT_RECORD;
     for _ in 0..count {
-        if reader::seen(bytes, at) != Some(Kind::Line) {
-            return Err(Cause::Malformed.at(at));
-        }
+        let refusal = Cause::Malformed.at(at);
+        let Kind::Line = reader::seen(bytes, at).ok_or(refusal)? else {
+            return Err(refusal);
+        };
         let line = line_at(bytes, at);
         if let Err(cause) = line_cause(last, line) {
             return Err(cause.at(at));
@@ -149,12 +151,13 @@ fn read_lines(bytes: &[u8], count: usize) -> Result<Report, Refusal>
 fn read_records(bytes: &[u8]) -> Result<Report, Refusal>
     ensures { result ≡ read_records bytes.now }
 {
-    if reader::seen(bytes, 0) != Some(Kind::Count) {
-        return Err(Cause::Malformed.at(0));
-    }
+    let refusal = Cause::Malformed.at(0);
+    let Kind::Count = reader::seen(bytes, 0).ok_or(refusal)? else {
+        return Err(refusal);
+    };
     let count = usize::from(bytes[1]);
     if FLOWS < count {
-        return Err(Cause::Malformed.at(0));
+        return Err(refusal);
     }
     read_lines(bytes, count)
 }

@@ -61,9 +61,10 @@ fn flow_at(plan: &[u8], at: usize) -> Flow
 fn read_end(plan: &[u8], at: usize, lmin: u16, lmax: u16, row: Row) -> Result<FlowSet, Refusal>
     ensures { result ≡ read_end lmin lmax row plan.now at }
 {
-    if reader::seen(plan, at) != Some(Kind::End) {
-        return Err(Cause::Malformed.at(at));
-    }
+    let refusal = Cause::Malformed.at(at);
+    let Kind::End = reader::seen(plan, at).ok_or(refusal)? else {
+        return Err(refusal);
+    };
     if at + 1 < plan.len() {
         return Err(Cause::Malformed.at(at + 1));
     }
@@ -76,7 +77,10 @@ fn read_flows(plan: &[u8], lmin: u16, lmax: u16) -> Result<FlowSet, Refusal>
 {
     let mut row = row::none();
     let mut at = records::LINKS_RECORD;
-    while reader::seen(plan, at) == Some(Kind::Flow) {
+    while let Some(kind) = reader::seen(plan, at) {
+        let Kind::Flow = kind else {
+            break;
+        };
         let f = flow_at(plan, at);
         if let Err(cause) = record_cause(row, f) {
             return Err(cause.at(at));
@@ -91,9 +95,10 @@ fn read_flows(plan: &[u8], lmin: u16, lmax: u16) -> Result<FlowSet, Refusal>
 fn read_records(plan: &[u8]) -> Result<FlowSet, Refusal>
     ensures { result ≡ read_records plan.now }
 {
-    if reader::seen(plan, 0) != Some(Kind::Links) {
-        return Err(Cause::Malformed.at(0));
-    }
+    let refusal = Cause::Malformed.at(0);
+    let Kind::Links = reader::seen(plan, 0).ok_or(refusal)? else {
+        return Err(refusal);
+    };
     let links = records::read_links(&plan[1..records::LINKS_RECORD]);
     if let Err(cause) = flows::delay_cause(links.lmin, links.lmax) {
         return Err(cause.at(0));

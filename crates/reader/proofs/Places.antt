@@ -1,19 +1,16 @@
 -- The table of kinds, and what a kind says of the bytes at its place.
 use Prim.Native.Nat.{ℕ, ◌+◌, ◌-◌, ◌≤◌, ◌<◌}
 use mathlib.Core.Path.{◌≡◌, refl, sym, ap, ◌∙◌}
-use mathlib.Core.Bool.{not, Bool, true, false, cond}
+use mathlib.Core.Bool.{Bool, true, false, cond}
 use mathlib.Core.List.{List}
 use mathlib.Core.Logic.{◌⊎◌, inl, inr}
 use native.Mathlib.Omega.{arith}
-use Rattle.std.specs.Prelude.{Option, Some, None}
+use Rattle.std.specs.Prelude.{Option, Some, None, Result, Ok, Err, IsErrAnd}
 use lib.ListN.{length, get_or}
 use lib.Dec.{leb, ltb, eqb}
 use borrow.Author.Tests.{eq-eqb, ne_eqb, le-ltb, lt-leb, eqb-true, eqb-false, ltb-false, leb-false}
 use Rattle.records.specs.Kinds.{links_kind, flow_kind, end_kind, count_kind, line_kind, close_kind}
-use Rattle.std.specs.Option.{option_eq}
-use denote.Enum.Bare.{sameb, same_true, same_false}
-use borrow.Author.Tests.{not-true, not-false}
-use Rattle.reader.specs.contracts.Kind.{the_type}
+use Rattle.std.specs.Option.{ok_or}
 use Rattle.reader.specs.declared.Kind.{Kind}
 use Rattle.reader.specs.declared.Kind.TheVariants.{Links, Flow, End, Count, Line, Close}
 use Rattle.reader.specs.Places.{byte_of, body_of, with_body, kind_named, kind_of, kind_at, if_kind}
@@ -79,30 +76,36 @@ unfolding if_kind
 if_other None w x y n = refl
 if_other (Some k) w x y n = rw (ne_eqb _ _ (λ h. n (ap Some (same_kind k w h))))
 
--- the test of a kind, as a caller writes it
-abbrev pub sees : Option Kind → Kind → Bool
-sees k w = option_eq (sameb the_type) k (Some w)
+-- what a caller knows that takes the answer apart by let .. else
+pub kind_none : (k : Option Kind) (w : Kind) → k ≡ None → k ≡ Some w → ⊥
+kind_none k w e g = cc
 
-sees-true : (k : Option Kind) (w : Kind) → sees k w ≡ true → k ≡ Some w
-sees-true None w e = cc
-sees-true (Some k) w e = ap Some (same_true the_type tt k w e)
+pub kind_other : (k : Option Kind) (l w : Kind) → k ≡ Some l → (l ≡ w → ⊥) → k ≡ Some w → ⊥
+kind_other k l w e n g = n (cc)
 
-sees-false : (k : Option Kind) (w : Kind) → sees k w ≡ false → k ≡ Some w → ⊥
-sees-false None w e h = cc
-sees-false (Some k) w e h = same_false the_type k w e (let g : k ≡ w = cc in g)
+-- what a ? gives back
+passed : {T E : Type 0} {e : E} (r : Result T E) → IsErrAnd r (λ d. d ≡ e) → r ≡ Err e
+passed (Ok x) h = absurd h
+passed (Err d) h = ap Err h
 
-module _ (k : Option Kind) (w : Kind) (t : Bool) where
-  pub saw : t ≡ sees k w → t ≡ true → k ≡ Some w
-  saw e h = sees-true k w (sym e ∙ h)
+-- where there is none, the caller refuses by a ?
+module _ {E : Type 0} (k : Option Kind) (e : E) (r : Result Kind E) (v : r ≡ ok_or k e) (w : Kind) where
+  pub saw : (l : Kind) → r ≡ Ok l → l ≡ w → k ≡ Some w
+  saw l h i = go k (sym v ∙ h)
+    where
+      go : (m : Option Kind) → ok_or m e ≡ Ok l → m ≡ Some w
+      go None j = cc
+      go (Some x) j = cc
 
-  pub saw_not : t ≡ not (sees k w) → t ≡ false → k ≡ Some w
-  saw_not e h = sees-true k w (not-false _ (sym e ∙ h))
+  pub saw_other : (l : Kind) → r ≡ Ok l → (l ≡ w → ⊥) → k ≡ Some w → ⊥
+  saw_other l h n g = let i : ok_or (Some w) e ≡ Ok l = ap (λ (m : Option Kind). ok_or m e) (sym g) ∙ sym v ∙ h in n (cc)
 
-  pub saw-other : t ≡ sees k w → t ≡ false → k ≡ Some w → ⊥
-  saw-other e h = sees-false k w (sym e ∙ h)
-
-  pub saw_none : t ≡ not (sees k w) → t ≡ true → k ≡ Some w → ⊥
-  saw_none e h = sees-false k w (not-true _ (sym e ∙ h))
+  pub saw_none : {A : Type 0} (a : Result A E) (d : E) → r ≡ Err d → IsErrAnd a (λ f. f ≡ d) → (a ≡ Err e) × (k ≡ Some w → ⊥)
+  saw_none a d h i = go k refl (sym v ∙ h)
+    where
+      go : (m : Option Kind) → k ≡ m → ok_or m e ≡ Err d → (a ≡ Err e) × (k ≡ Some w → ⊥)
+      go None g j = let f : d ≡ e = cc in (passed a i ∙ ap Err f, kind_none k w g)
+      go (Some x) g j = cc
 
 -- what follows from the kind that a caller saw
 module _ {A : Type 0} (b : List ℕ) (at : ℕ) (w : Kind) (x y : A) (k : Option Kind) (e : k ≡ kind_at b at) where
