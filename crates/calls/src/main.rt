@@ -105,7 +105,7 @@ fn write_table<W: Write>(out: &mut W, kept: Kept) -> io::Result<Option<Kept>> {
     match plans::write_plan(&mut buffer, kept.table) {
         Ok(n) => read_table(out, kept, &buffer, n),
         Err(r) => {
-            show::print_refusal(out, r)?;
+            show::print_refused(out, r)?;
             Ok(Some(kept))
         }
     }

@@ -72,6 +72,7 @@ module _ (s : Report) (old : List ℕ) where
   promised : InOrder s → ReportWritten s old (report_written (length old) n) (report_after (lines_in s) old)
   promised o = record {
     short = λ h. (answer-short h, sym (buffer_kept bytes (report_length n) old (lacks h)));
+    short_is_13 = (refl, refl);
     long = λ h. (answer-long h, buffer_long bytes (report_length n) old long (fits h), rest h);
     read = λ h. ap read_report (begins h) ∙ write_read (lines_in s) o.listable ∙ ap (λ (r : Report). record { outcome = Ok tt; report = r }) (sym o.report);
     bytes = λ h b u e. begins h ∙ read_write b u s e;
@@ -124,4 +125,5 @@ pub ask_promise : (s : Report) (number : ℕ) (r : Result Figures Refusal) → r
 ask_promise s number r e o = record {
   present = λ l m h. e ∙ rw h at (asked_present (lines_in s) o.listable.rising l m);
   absent = λ n. e ∙ asked_absent (lines_in s) number n;
+  absent_is_11 = (refl, refl);
 }

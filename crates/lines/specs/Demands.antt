@@ -5,6 +5,7 @@ use mathlib.Core.List.{List, [], ◌∷◌, ◌++◌, Memᴰ}
 use Rattle.flows.specs.declared.Figures.{Figures}
 use Rattle.flows.specs.declared.Cause.{Cause}
 use Rattle.flows.specs.declared.Cause.TheVariants.{ShortBuffer, Absent, OutOfRange, Malformed}
+use Rattle.flows.specs.Refusals.{number_of, flow_named}
 use Rattle.flows.specs.WellFormed.{Exactly, Each}
 use Rattle.row.specs.Rows.{RisingBy}
 use Rattle.records.specs.declared.Line.{Line}
@@ -113,6 +114,7 @@ pub record ReportRead (b : List ℕ) (r : Reading) : Type 0 where
 -- and is any bytes from which the report was read
 pub record ReportWritten (s : Report) (old : List ℕ) (r : Result ℕ Refusal) (new : List ℕ) : Type 0 where
   pub short : length old < size s → (r ≡ Err (record { cause = ShortBuffer; place = 0 })) × (new ≡ old)
+  pub short_is_13 : (number_of ShortBuffer ≡ 13) × (flow_named ShortBuffer ≡ 0)
   pub long : size s ≤ length old → (r ≡ Ok (size s)) × (length new ≡ length old) × (drop (size s) new ≡ drop (size s) old)
   pub read : size s ≤ length old → read_report (take (size s) new) ≡ record { outcome = Ok tt; report = s }
   pub bytes : size s ≤ length old → (b : List ℕ) → Bytes b → read_report b ≡ record { outcome = Ok tt; report = s } → take (size s) new ≡ b
@@ -121,3 +123,4 @@ pub record ReportWritten (s : Report) (old : List ℕ) (r : Result ℕ Refusal) 
 pub record ReportAsked (s : Report) (number : ℕ) (r : Result Figures Refusal) : Type 0 where
   pub present : (l : Line) → Memᴰ l (lines_in s) → l.number ≡ number → r ≡ Ok l.figures
   pub absent : ((l : Line) → Memᴰ l (lines_in s) → l.number ≡ number → ⊥) → r ≡ Err (record { cause = Absent; place = 0 })
+  pub absent_is_11 : (number_of Absent ≡ 11) × (flow_named Absent ≡ 0)

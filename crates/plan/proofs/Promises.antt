@@ -66,6 +66,7 @@ module _ (s : FlowSet) (p : Proper s) where
     pub written : SetWritten s old (answer s old) (after s old)
     written = record {
       short = λ h. (short-answer s old h, short-after s old h);
+      short_is_13 = (refl, refl);
       long = λ h. (long-answer s old h, same_length h, rest h);
       read = λ h. ap read_plan (begins h) ∙ write_read-set s p;
       plan = λ h b u e. begins h ∙ read_write b u s e;

@@ -4,6 +4,7 @@ use Rattle.std.specs.Prelude.{Result, Ok, Err, ℕ, ◌+◌, ◌*◌, ◌≤◌,
 use Rattle.flows.specs.declared.Flow.{Flow}
 use Rattle.flows.specs.declared.Cause.{Cause}
 use Rattle.flows.specs.declared.Cause.TheVariants.{ShortBuffer, Delays, Full, Malformed}
+use Rattle.flows.specs.Refusals.{number_of, flow_named}
 use Rattle.flows.specs.Lists.{held, row_of}
 use Rattle.flows.specs.WellFormed.{Exactly, DelaysFit, WellFormed, OfFlow, Typed}
 use Rattle.row.specs.Rows.{last_number}
@@ -91,6 +92,7 @@ pub record SetRead (b : List ℕ) (r : Reading) : Type 0 where
 -- is any plan from which the set was read
 pub record SetWritten (s : FlowSet) (old : List ℕ) (r : Result ℕ Refusal) (new : List ℕ) : Type 0 where
   pub short : length old < size s → (r ≡ Err (record { cause = ShortBuffer; place = 0 })) × (new ≡ old)
+  pub short_is_13 : (number_of ShortBuffer ≡ 13) × (flow_named ShortBuffer ≡ 0)
   pub long : size s ≤ length old → (r ≡ Ok (size s)) × (length new ≡ length old) × (drop (size s) new ≡ drop (size s) old)
   pub read : size s ≤ length old → read_plan (take (size s) new) ≡ record { outcome = Ok tt; set = s }
   pub plan : size s ≤ length old → (b : List ℕ) → Bytes b → read_plan b ≡ record { outcome = Ok tt; set = s } → take (size s) new ≡ b

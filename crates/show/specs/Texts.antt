@@ -6,7 +6,7 @@ use Rattle.flows.specs.declared.Figures.{Figures}
 use Rattle.flows.specs.declared.Refusal.{Refusal}
 use Rattle.flows.specs.declared.Answer.{Answer}
 use Rattle.flows.specs.declared.Table.{Table}
-use Rattle.flows.specs.Refusals.{refusal_words}
+use Rattle.flows.specs.Refusals.{number_of, flow_named}
 use Rattle.flows.specs.Lists.{held}
 use Rattle.records.specs.declared.Line.{Line}
 use Rattle.records.specs.Bodies.{line_words}
@@ -34,8 +34,12 @@ report_text r = codes "flow bound jitter busy\n" ++ flat_map line_text (lines_in
 abbrev pub table_text : Table → List ℕ
 table_text t = report_text (table_report t)
 
+-- a refusal by its numbers, and by its cause and place
+abbrev pub numbers_text : ℕ → ℕ → ℕ → List ℕ
+numbers_text number flow place = (codes "refused " ++ decimal number ++ codes " flow " ++ decimal flow ++ codes " at " ++ decimal place) ++ codes "\n"
+
 abbrev pub refusal_text : Refusal → List ℕ
-refusal_text r = refusal_words r ++ codes "\n"
+refusal_text r = numbers_text (number_of r.cause) (flow_named r.cause) r.place
 
 -- what is printed of an outcome that is accepted, or its refusal
 abbrev pub unless_refused : Result (Unit {0}) Refusal → List ℕ → List ℕ

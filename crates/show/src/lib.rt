@@ -3,8 +3,8 @@
 
 ghost use Rattle.std.specs.Prelude.{◌≡◌, ◌<◌, ◌≤◌, length, take, IfSome, IfNone, IfOk, OnOk};
 ghost use Rattle.std.specs.Io.KnownBytes.{Appends, Consumes, IsAtEnd};
-ghost use Rattle.show.specs.Frames.{FrameRead};
-ghost use Rattle.show.specs.Texts.{report_text, table_text, refusal_text, done_text, asked_text, length_text, digit_of, byte_text, hex_text, written_text, set_text, table_report_text, into_text, lent_text, read_text, shown_text, plan_text};
+ghost use Rattle.show.specs.Frames.{FrameRead, FrameCut};
+ghost use Rattle.show.specs.Texts.{report_text, table_text, numbers_text, refusal_text, done_text, asked_text, length_text, digit_of, byte_text, hex_text, written_text, set_text, table_report_text, into_text, lent_text, read_text, shown_text, plan_text};
 
 use flows::{Answer, Figures, Refusal, Table};
 use lines::Report;
@@ -45,6 +45,7 @@ pub fn read_frame<'a, R: Read>(
 ) -> io::Result<Option<&'a [u8]>>
     ensures read { IfOk result (λ frame. IfSome frame (λ f. FrameRead (R.remaining input.old) (R.remaining input.new) f.now)) }
     ensures end { IfOk result (λ frame. IfNone frame (IsAtEnd (R.remaining input.new))) }
+    ensures cut { IfOk result (λ frame. IfNone frame (FrameCut (R.remaining input.old))) }
 {
     let mut head = [0u8; 2];
     if read_full(input, &mut head)? < 2 {
@@ -82,7 +83,15 @@ pub fn print_table<W: Write>(out: &mut W, t: Table) -> io::Result<()>
     print_lines(out, reports::report_of(t))
 }
 
-pub fn print_refusal<W: Write>(out: &mut W, r: Refusal) -> io::Result<()>
+// A refusal by its numbers, as a caller in C has them.
+pub fn print_refusal<W: Write>(out: &mut W, number: u8, flow: u8, place: usize) -> io::Result<()>
+    ensures { OnOk result (Appends (W.contents out.old) (W.contents out.new) (numbers_text number flow place)) }
+{
+    writeln!(out, "refused {number} flow {flow} at {place}")
+}
+
+// The same of a refusal's own.
+pub fn print_refused<W: Write>(out: &mut W, r: Refusal) -> io::Result<()>
     ensures { OnOk result (Appends (W.contents out.old) (W.contents out.new) (refusal_text r)) }
 {
     writeln!(out, "{r}")
@@ -94,7 +103,7 @@ pub fn print_done<W: Write>(out: &mut W, answer: Answer, done: &[u8]) -> io::Res
 {
     match answer.outcome {
         Ok(()) => put(out, done),
-        Err(refusal) => print_refusal(out, refusal),
+        Err(refusal) => print_refused(out, refusal),
     }
 }
 
@@ -108,7 +117,7 @@ pub fn print_asked<W: Write>(
 {
     match asked {
         Ok(figures) => writeln!(out, "{}", Line { number, figures }),
-        Err(r) => print_refusal(out, r),
+        Err(r) => print_refused(out, r),
     }
 }
 
@@ -156,7 +165,7 @@ fn print_written<W: Write>(
 {
     match written {
         Ok(n) => print_bytes(out, bytes, n),
-        Err(r) => print_refusal(out, r),
+        Err(r) => print_refused(out, r),
     }
 }
 
@@ -184,7 +193,7 @@ fn print_into<W: Write>(out: &mut W, bytes: &mut [u8], t: Table) -> io::Result<(
 {
     match plans::write_plan(bytes, t) {
         Ok(n) => print_length(out, n)?,
-        Err(r) => print_refusal(out, r)?,
+        Err(r) => print_refused(out, r)?,
     }
     print_bytes(out, bytes, bytes.len())
 }
@@ -205,7 +214,7 @@ pub fn print_reading<W: Write>(out: &mut W, reading: Reading) -> io::Result<()>
         put(out, b"read ")?;
         return print_length(out, row::size(reading.set.row));
     };
-    print_refusal(out, r)
+    print_refused(out, r)
 }
 
 // The lines of a report that is read, or the refusal.
@@ -216,7 +225,7 @@ pub fn print_report<W: Write>(out: &mut W, bytes: &[u8]) -> io::Result<()>
     let Err(r) = reading.outcome else {
         return print_lines(out, reading.report);
     };
-    print_refusal(out, r)
+    print_refused(out, r)
 }
 
 // The table of an accepted plan, or the refusal.
@@ -226,6 +235,6 @@ pub fn print_plan<W: Write>(out: &mut W, plan: &[u8]) -> io::Result<()>
     let answer = plans::read_plan(plan);
     match answer.outcome {
         Ok(()) => print_table(out, answer.table),
-        Err(r) => print_refusal(out, r),
+        Err(r) => print_refused(out, r),
     }
 }

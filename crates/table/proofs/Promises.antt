@@ -151,6 +151,7 @@ module _ (t : Table) (number : ℕ) where
       let g = made-figured t m in
       record {
         absent = λ a. e ∙ ask_refused t number a;
+        absent_is_11 = (refl, refl);
         arrivals = g.arrivals;
         least = g.least;
         present = λ f p h. subst (λ (q : Asked). Stored t g.arrivals f q) (ap (asked_for t) h ∙ sym e) (g.stored f p);

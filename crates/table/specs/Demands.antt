@@ -9,7 +9,7 @@ use Rattle.flows.specs.declared.Figures.{Figures}
 use Rattle.flows.specs.declared.Table.{Table}
 use Rattle.flows.specs.declared.Answer.{Answer}
 use Rattle.flows.specs.declared.Cause.TheVariants.{Absent}
-use Rattle.flows.specs.Refusals.{Ruling, accepted, cause_in, place_in}
+use Rattle.flows.specs.Refusals.{Ruling, number_of, flow_named, accepted, cause_in, place_in}
 use Rattle.flows.specs.Lists.{held, flow_of, figures_of, net_from, table_net}
 use Rattle.flows.specs.WellFormed.{Exactly, Exact, OfDelays}
 use Rattle.row.specs.Rows.{insert_sorted}
@@ -110,6 +110,7 @@ pub record Withdrawing (t : Table) (number : ℕ) (r : Answer) : Type 0 where
 -- ---- asking
 pub record Asking (t : Table) (number : ℕ) (r : Asked) : Type 0 where
   pub absent : Unused t number → r ≡ Err (record { cause = Absent; place = 0 })
+  pub absent_is_11 : (number_of Absent ≡ 11) × (flow_named Absent ≡ 0)
   pub arrivals : Arrivals
   pub least : LeastSettled (table_net t) arrivals
   pub present : (f : Flow) → Present t f → f.number ≡ number → Stored t arrivals f r
