@@ -7,4 +7,4 @@ pub outcome_code-requires : goal.outcome_code-requires
 outcome_code-requires c = search (report_fits, rules)
 
 pub returns : goal.returns
-returns c = record { value = search report_coded; checks = search (check_promise, report_coded, rules) }
+returns c = record { value = search (report_coded, rules); checks = search (check_promise, report_coded, rules) }
